@@ -1,6 +1,6 @@
--- What is announced of an encoder's pieces, by where the rendition stands and by the readings of a clock.
+-- The messages that announce an encoder's pieces, by where the rendition stands and by the readings of a clock.
 use Rattle.std.specs.Prelude.{ℕ, ◌+◌, ◌*◌, ◌/◌, ◌==◌, ◌&&◌, Bool, true, false, List, [], ◌∷◌, ◌++◌, Option, Some, None, fold, max, nat_lt, not, if◌then◌else◌}
-use Rattle.ll_mp4.specs.declared.fault.Fault.{Fault}
+use Rattle.ll_mp4.specs.declared.fault.StreamFault.{StreamFault}
 use Rattle.ll_parts.specs.Stream.{Outcome}
 use Rattle.ll_parts.specs.declared.pieces.Piece.{Piece}
 use Rattle.ll_parts.specs.declared.pieces.Piece.TheVariants.{Begin, Init, Media, Finish, Break}
@@ -11,19 +11,19 @@ use Rattle.ll_announce.specs.declared.said.Said.{Said}
 use Rattle.ll_announce.specs.declared.said.Said.TheVariants as said
 use Rattle.ll_announce.specs.declared.standing.Standing.{Standing}
 
--- milliseconds as microseconds, as a number of 64 bits
+-- milliseconds as microseconds, at most 2^64 - 1
 abbrev pub from_millis : ℕ → ℕ
 from_millis ms = up (ms * 1000) 0
 
--- the least number of whole milliseconds that is no shorter
+-- microseconds as milliseconds, rounded up
 abbrev pub millis_up : ℕ → ℕ
 millis_up micros = (micros + 999) / 1000
 
--- the course of a rendition that stands there: times are counted from where its next part begins
+-- the course of a rendition that stands at `s`: the encoder's times are counted from where its next part begins
 abbrev pub course_of : Standing → Course
 course_of s = record { place = s.place; clock = from_millis s.time; origin = from_millis s.time }
 
--- when the next part begins
+-- when the next part begins after an item is announced
 abbrev pub clock_after : ℕ → Said → ℕ
 clock_after clock said.Init = clock
 clock_after clock (said.Part duration finishes) = up clock duration
@@ -35,17 +35,18 @@ clock_after clock said.End = clock
 abbrev pub course_after : Course → Said → Course
 course_after c said = record c { place = led c.place said; clock = clock_after c.clock said }
 
--- after these messages
+-- the course after a message
 abbrev pub course_by : Course → MessageValue → Course
 course_by c message = course_after c message.said
 
 -- ---- a movie begins
 
--- the time that a break before it sets: that of the clock, or none where the rendition's time is past that
+-- the time that a break before it sets: that of the clock, or none if the rendition's time is past it
 abbrev pub opening_time : Course → ℕ → Option ℕ
 opening_time c now = if nat_lt (from_millis now) c.clock then None else Some now
 
--- The break before it, by the time of the clock in milliseconds. Where no part came before, none is needed, unless the rendition's time is more than a part behind the clock.
+-- The break before it, and the time that this sets, by the time of the clock in milliseconds. If no part came before, no break is needed
+-- unless the rendition's time is more than a part behind the clock.
 abbrev pub opening : ℕ → Course → ℕ → Option (Option ℕ)
 opening part c now =
     if not (c.place.end == 0) then Some (opening_time c now)
@@ -56,7 +57,7 @@ abbrev pub opening_messages : Names → Option (Option ℕ) → List MessageValu
 opening_messages names (Some time) = break_message names time ∷ []
 opening_messages names None = []
 
--- a segment that is open ends first
+-- an open segment is finished first
 abbrev pub closing_messages : Names → ℕ → List MessageValue
 closing_messages names index = if not (index == 0) then finish_message names ∷ [] else []
 
@@ -65,11 +66,11 @@ begun names part c now = closing_messages names c.place.index ++ opening_message
 
 -- ---- one piece
 
--- the time after a gap: that of the encoder, and no earlier than the next part would begin without it
+-- the time in milliseconds after a gap: that of the encoder, and no earlier than the next part would begin without it
 abbrev pub gap_time : Course → ℕ → ℕ
 gap_time c since = max (millis_up (up c.origin since)) (millis_up c.clock)
 
--- its messages; `now` counts where a movie begins
+-- the messages of a piece; `now` is used only if a movie begins
 abbrev pub spoken : Names → ℕ → Course → ℕ → Piece → List MessageValue
 spoken names part c now (Begin section) = begun names part c now ++ init_message names section ∷ []
 spoken names part c now (Init section) = init_message names section ∷ []
@@ -78,7 +79,7 @@ spoken names part c now Finish = finish_message names ∷ []
 spoken names part c now (Break None) = break_message names None ∷ []
 spoken names part c now (Break (Some since)) = break_message names (Some (gap_time c since)) ∷ []
 
--- whether the encoder's times are counted anew from there
+-- whether the encoder's times are counted anew from the end of the piece
 abbrev pub counts_anew : Piece → Bool
 counts_anew (Begin section) = true
 counts_anew (Init section) = false
@@ -118,12 +119,12 @@ texts names part c readings (piece ∷ pieces) =
     spoken names part c (first_of readings) piece
     ++ texts names part (course_then c (spoken names part c (first_of readings) piece) piece) (later_readings piece readings) pieces
 
--- the end's, where the rendition is to be ended and no fault ends what comes
-abbrev pub last_texts : Names → Option Fault → Bool → List MessageValue
+-- the message of the end, if the rendition is to be ended and no fault ended the stream
+abbrev pub last_texts : Names → Option StreamFault → Bool → List MessageValue
 last_texts names (Some fault) ends = []
 last_texts names None false = []
 last_texts names None true = end_message names ∷ []
 
--- all messages of what is to come
+-- all messages of the pieces that are still to come
 abbrev pub messages : Names → ℕ → Bool → Course → List ℕ → Outcome → List MessageValue
 messages names part ends c readings outcome = texts names part c readings outcome.pieces ++ last_texts names outcome.fault ends

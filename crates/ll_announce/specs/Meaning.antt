@@ -1,4 +1,4 @@
--- Names, as contracts see them.
+-- The value of names, which contracts speak of.
 use Rattle.ll_announce.specs.Messages.{Names}
 use Rattle.ll_announce.specs.declared.names.Names.{Names as Given}
 

@@ -1,14 +1,14 @@
--- Where a rendition's next part stands, and how what is announced moves it.
+-- The place of a rendition's next part, and how an item moves it.
 use Rattle.std.specs.Prelude.{ℕ, ◌+◌, ◌-◌, ◌^◌, true, false, min}
 use Rattle.ll_announce.specs.declared.place.Place.{Place}
 use Rattle.ll_announce.specs.declared.said.Said.{Said}
 use Rattle.ll_announce.specs.declared.said.Said.TheVariants.{Init, Part, Finish, Break, End}
 
--- a sum, as a number of 64 bits
+-- a sum, at most 2^64 - 1
 abbrev pub up : ℕ → ℕ → ℕ
 up a b = min (a + b) (2 ^ 64 - 1)
 
--- the place after an item that was accepted: the end closes a segment that is open
+-- the place after an item that was accepted; the end finishes an open segment
 abbrev pub led : Place → Said → Place
 led p Init = p
 led p (Part duration false) = record p { index = up p.index 1; end = up p.end duration }

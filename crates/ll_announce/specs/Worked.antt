@@ -1,7 +1,8 @@
--- The definitions at a worked example: a rendition that stands amid a segment, with 1.5 seconds of parts; then a movie that begins at 9 s, whose initialization section has two
--- bytes, one of which is LF, with two parts, a gap, and another movie, which begins before the time that the gap has led to.
+-- A worked example: a rendition that stands amid a segment, with 1.5 seconds of parts; then a movie that begins at 9 s, whose
+-- initialization section has two bytes, one of which is LF, with two parts, a gap, and another movie, which begins before the time that
+-- the gap has led to.
 use Rattle.std.specs.Prelude.{◌≡◌, ℕ, List, [], ◌∷◌, ◌++◌, true, false, Some, None, codes, map}
-use Rattle.ll_mp4.specs.declared.fault.Fault.TheVariants as fault
+use Rattle.ll_mp4.specs.declared.fault.StreamFault.TheVariants as fault
 use Rattle.ll_parts.specs.declared.pieces.Piece.{Piece}
 use Rattle.ll_parts.specs.declared.pieces.Piece.TheVariants.{Begin, Init, Media, Finish, Break}
 use Rattle.ll_announce.specs.Courses.{course_of, messages}
@@ -19,7 +20,7 @@ pieces =
 abbrev pub start : Course
 start = course_of (record { count = 3; place = record { number = 4; index = 2; end = 1500000; ended = false }; time = 5000 })
 
--- a rendition without parts, whose time is 2 s
+-- a rendition without parts, whose time is `time` milliseconds
 abbrev pub fresh : ℕ → Course
 fresh time = course_of (record { count = 0; place = record { number = 0; index = 0; end = 0; ended = false }; time = time })
 
@@ -32,7 +33,7 @@ lines =
 abbrev pub texts_of : List MessageValue → List (List ℕ)
 texts_of messages = map (λ (m : MessageValue). m.bytes) messages
 
--- with the rendition's end, without it, and with a fault; then a rendition that is no more than a part behind the clock, or more
+-- with the rendition's end, without it, and with a fault; then a rendition that is a part behind the clock, more than that, or ahead of it
 abbrev pub WorkedMessages : Type 0
 WorkedMessages =
     (texts_of (messages names 500000 true start (9000 ∷ 9500 ∷ []) (record { pieces = pieces; fault = None })) ≡ lines ++ codes "cam end hi\n" ∷ [])

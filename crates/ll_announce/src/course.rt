@@ -1,4 +1,4 @@
-//! How a rendition goes on, as its publisher counts it, and what is announced of the pieces that come.
+//! The course of a rendition, by which its publisher announces an encoder's pieces.
 ghost use Rattle.std.specs.Prelude.{◌≡◌, ◌++◌, ◌∷◌, [], IfOk, fold, true};
 ghost use Rattle.ll_announce.specs.Courses as spec;
 ghost use Rattle.ll_announce.specs.Meaning.{named};
@@ -12,14 +12,15 @@ use crate::standing::Standing;
 use ll_parts::Piece;
 use std::alloc::{AllocError, Global};
 
-/// Where a rendition goes on, with what was announced so far. Times are in microseconds since 1970-01-01T00:00:00Z, at most 2^64 - 1.
+/// Where a rendition goes on after all that was announced so far. Times are in microseconds since 1970-01-01T00:00:00Z, at most
+/// 2^64 - 1.
 #[derive(Clone, Copy, Debug, PartialEq, Eq)]
 pub struct Course {
     /// The place of the next part.
     pub place: Place,
     /// When the next part begins.
     pub clock: u64,
-    /// When the tick was from which the encoder's times are counted.
+    /// The time of the tick from which the encoder's times are counted.
     pub origin: u64,
 }
 
@@ -43,7 +44,8 @@ impl Course {
         }
     }
 
-    /// Adds the messages of `piece` to `out`, and counts them; `part` is the longest part in microseconds, and `now` the time of the clock in milliseconds, which counts if a movie begins.
+    /// Adds the messages of `piece` to `out`, and moves the course past them. `part` is the longest part in microseconds; `now` is the time
+    /// of the clock in milliseconds, which is used only if a movie begins.
     pub fn announce(
         &mut self,
         alloc: Global,
@@ -78,7 +80,7 @@ impl Course {
         }
     }
 
-    /// Adds `message` to `out`, and counts it.
+    /// Adds `message` to `out`, and moves the course past it.
     fn say(&mut self, message: Message, out: &mut Messages) -> Result<(), AllocError>
         ensures said { IfOk result (λ _. out.new ≡ out.old ++ message ∷ []) }
         ensures counted { IfOk result (λ _. self.new ≡ spec.course_by self.old message) }
@@ -87,7 +89,7 @@ impl Course {
         out.push(message)
     }
 
-    /// Counts an item that is announced.
+    /// Moves the course past an item that is announced.
     fn count(&mut self, said: Said)
         ensures { self.new ≡ spec.course_after self.old said }
     {
@@ -99,7 +101,7 @@ impl Course {
         };
     }
 
-    /// Adds to `out` what comes before a movie's initialization section.
+    /// Adds to `out` the messages before a movie's initialization section: a finish, if a segment is open, and a break, if one is due.
     fn open(
         &mut self,
         alloc: Global,
@@ -121,7 +123,7 @@ impl Course {
         Ok(())
     }
 
-    /// Returns the break that comes before a movie, if one does, and the time that it sets, if it does.
+    /// Returns whether a break comes before a movie, and the time in milliseconds that it sets, if it does.
     fn opening(&self, part: u64, now: u64) -> Option<Option<u64>>
         ensures { result ≡ spec.opening part self.now now }
     {
@@ -135,7 +137,8 @@ impl Course {
         }
     }
 
-    /// Returns the time of a break after which the encoder's times go on `since` microseconds after the tick from which they are counted, in milliseconds.
+    /// Returns the time in milliseconds that a break sets after which the encoder's times go on `since` microseconds after the tick from
+    /// which they are counted: no earlier than the next part would begin without it.
     fn gap_time(&self, since: u64) -> u64
         ensures { result ≡ spec.gap_time self.now since }
     {

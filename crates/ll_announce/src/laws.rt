@@ -1,7 +1,7 @@
-//! A worked example, the contract of an empty function.
+//! A worked example of the definitions, as the contract of an empty function.
 ghost use Rattle.ll_announce.specs.Worked.{WorkedMessages};
 
-/// Shows the definitions at a worked example.
+/// Shows the messages of a worked example.
 pub fn worked_messages()
     ensures { WorkedMessages }
 {}

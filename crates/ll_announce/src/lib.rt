@@ -1,4 +1,4 @@
-//! What an origin is sent of an encoder's pieces, a message for each item, and where the rendition stands then.
+//! Makes the messages that announce an encoder's pieces to an origin, one for each item, and follows where the rendition stands.
 #![tactic(auto)]
 
 mod course;

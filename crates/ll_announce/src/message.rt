@@ -1,4 +1,4 @@
-//! The messages that an origin is sent: a line each, which an item's bytes and LF may follow.
+//! The messages to an origin: a line each, which for some items is followed by the item's bytes and LF.
 ghost use Rattle.std.specs.Prelude.{◌≡◌, IfOk};
 ghost use Rattle.ll_item.specs.ItemLines as lines;
 ghost use Rattle.ll_item.specs.ItemLines.{line_text};
@@ -9,11 +9,11 @@ ghost use Rattle.ll_announce.specs.Meaning.{named};
 use crate::names::Names;
 use crate::said::Said;
 use ll_item::ItemLine;
-use ll_parts::{Bytes, Part};
+use ll_parts::{Bytes, MediaPart};
 use std::alloc::{AllocError, Global};
 use std::marker::Model;
 
-/// What an origin is sent at once, and answers by one line.
+/// What is sent to an origin at once, and answered by one line.
 #[derive(Drop)]
 pub struct Message {
     bytes: Vec<u8>,
@@ -29,7 +29,7 @@ impl Model for Message {
 }
 
 impl Message {
-    /// Returns the message of an initialization section.
+    /// Returns the message that announces an initialization section.
     pub(crate) fn init(
         alloc: Global,
         names: &Names<'_>,
@@ -45,8 +45,12 @@ impl Message {
         })
     }
 
-    /// Returns the message of `part`.
-    pub(crate) fn part(alloc: Global, names: &Names<'_>, part: &Part) -> Result<Message, AllocError>
+    /// Returns the message that announces `part`.
+    pub(crate) fn part(
+        alloc: Global,
+        names: &Names<'_>,
+        part: &MediaPart,
+    ) -> Result<Message, AllocError>
         ensures { IfOk result (λ m. m ≡ spec.part_message (named names.now) part.now) }
     {
         let Names { channel, rendition } = *names;
@@ -60,7 +64,7 @@ impl Message {
         })
     }
 
-    /// Returns the message that the open segment ends with its last part.
+    /// Returns the message that finishes the open segment.
     pub(crate) fn finish(alloc: Global, names: &Names<'_>) -> Result<Message, AllocError>
         ensures { IfOk result (λ m. m ≡ spec.finish_message (named names.now)) }
     {
@@ -71,7 +75,7 @@ impl Message {
         })
     }
 
-    /// Returns the message of a break, which may set the `time`, in milliseconds since 1970.
+    /// Returns the message that announces a break, and sets the `time`, if one is given, in milliseconds since 1970.
     pub(crate) fn of_break(
         alloc: Global,
         names: &Names<'_>,
@@ -86,7 +90,7 @@ impl Message {
         })
     }
 
-    /// Returns the message that nothing more comes.
+    /// Returns the message that ends the rendition.
     pub fn end(alloc: Global, names: &Names<'_>) -> Result<Message, AllocError>
         ensures { IfOk result (λ m. m ≡ spec.end_message (named names.now)) }
     {
@@ -112,7 +116,7 @@ impl Message {
     }
 }
 
-/// Returns the line that asks where the rendition stands.
+/// Returns the line that asks where the rendition stands, with its LF.
 #[tactic(auto, unfolding(crate::specs::Messages::sent_line, crate::specs::Messages::at_line))]
 pub fn question(alloc: Global, names: &Names<'_>) -> Result<Vec<u8>, AllocError>
     ensures { IfOk result (λ text. text.items ≡ spec.question (named names.now)) }
@@ -121,7 +125,7 @@ pub fn question(alloc: Global, names: &Names<'_>) -> Result<Vec<u8>, AllocError>
     Ok(format!(in alloc; "{channel} at {rendition}\n")?.into_bytes())
 }
 
-/// Returns the message of the item of `channel` that `line` spells and that has these `bytes`.
+/// Returns the text that announces the item `line` for `channel`, followed by its `bytes`.
 #[tactic(auto, unfolding(crate::specs::Messages::sent_line))]
 fn item_text(
     alloc: Global,
@@ -138,7 +142,7 @@ fn item_text(
     Ok(message)
 }
 
-/// Returns the message of the item of `channel` that `line` spells and that has no bytes.
+/// Returns the text that announces the item `line` for `channel`, which has no bytes.
 #[tactic(auto, unfolding(crate::specs::Messages::sent_line))]
 fn bare_text(alloc: Global, channel: &str, line: ItemLine<'_>) -> Result<Vec<u8>, AllocError>
     ensures { IfOk result (λ m. m.items ≡ spec.bare_text channel.now (line_text line.entry)) }
@@ -146,8 +150,8 @@ fn bare_text(alloc: Global, channel: &str, line: ItemLine<'_>) -> Result<Vec<u8>
     Ok(format!(in alloc; "{channel} {line}\n")?.into_bytes())
 }
 
-/// Returns the line of `part` in the rendition of this name, without the number of its bytes.
-fn part_line<'a>(rendition: &'a str, part: &Part) -> ItemLine<'a>
+/// Returns the line of `part`, without the number of its bytes.
+fn part_line<'a>(rendition: &'a str, part: &MediaPart) -> ItemLine<'a>
     ensures { line_text result ≡ lines.part_line rendition.now part.now.duration (flags_text part.now.independent part.now.finishes) }
 {
     ItemLine::Part {

@@ -1,4 +1,4 @@
-//! Messages that are to be sent.
+//! A queue of messages that are to be sent.
 ghost use Rattle.std.specs.Prelude.{◌≡◌, ◌++◌, ◌∷◌, [], IfOk, MatchOption};
 
 use crate::message::Message;
@@ -20,7 +20,7 @@ impl Model for Messages {
 }
 
 impl Messages {
-    /// Returns none.
+    /// Returns an empty queue.
     pub fn new(alloc: Global) -> Messages
         ensures { result ≡ [] }
     {
@@ -37,7 +37,7 @@ impl Messages {
         }
     }
 
-    /// Takes the first message away, and returns it.
+    /// Takes the first message, or returns `None` if there is none.
     pub fn pop(&mut self) -> Option<Message>
         ensures { MatchOption result ((self.old ≡ []) × (self.new ≡ [])) (λ message. self.old ≡ message ∷ self.new) }
     {

@@ -1,14 +1,15 @@
+//! The place of a rendition's next part, and how an item moves it.
 ghost use Rattle.std.specs.Prelude.{◌≡◌};
 ghost use Rattle.ll_announce.specs.Places.{led};
 
 use crate::said::Said;
 
-/// The place of a rendition's next part. Its numbers are at most 2^64 - 1.
+/// The place of a rendition's next part. Its numbers stop at 2^64 - 1.
 #[derive(Clone, Copy, Debug, PartialEq, Eq)]
 pub struct Place {
     /// Its Media Sequence Number.
     pub number: u64,
-    /// Its index in the segment.
+    /// Its Part Index.
     pub index: u64,
     /// How long all parts before it last, in microseconds.
     pub end: u64,
@@ -17,7 +18,7 @@ pub struct Place {
 }
 
 impl Place {
-    /// Returns the place after an item that was accepted here.
+    /// Returns the place after an item that `said` announces was accepted here.
     pub fn after(self, said: Said) -> Place
         ensures { result ≡ led self said }
     {

@@ -1,20 +1,21 @@
-/// What a message announces.
+//! What a message announces, without its bytes.
+/// What a message announces, without its bytes.
 #[derive(Clone, Copy, Debug, PartialEq, Eq)]
 pub enum Said {
     /// An initialization section.
     Init,
     /// A part.
     Part {
-        /// How long it is, in microseconds.
+        /// Its duration in microseconds.
         duration: u64,
         /// Whether it is the last of its segment.
         finishes: bool,
     },
-    /// That the open segment ends with its last part.
+    /// A finish: the open segment ends with its last part.
     Finish,
     /// A break.
     Break {
-        /// When the next segment begins, if the break sets that: milliseconds since 1970-01-01T00:00:00Z.
+        /// When the next segment begins, if the break sets that, in milliseconds since 1970-01-01T00:00:00Z.
         time: Option<u64>,
     },
     /// The end of the rendition.

@@ -1,4 +1,4 @@
-//! Where a rendition stands, as an origin answers.
+//! Reads an origin's answer that says where a rendition stands.
 ghost use Rattle.std.specs.Prelude.{◌≡◌};
 ghost use Rattle.std.specs.Option.{option_map};
 ghost use Rattle.ll_announce.specs.Standings as spec;
@@ -10,16 +10,16 @@ use ll_format::{flag_at, number, until};
 /// Where a rendition stands.
 #[derive(Clone, Copy, Debug, PartialEq, Eq)]
 pub struct Standing {
-    /// How many items the channel has accepted.
+    /// The number of items that the channel has accepted.
     pub count: u64,
     /// The place of the next part.
     pub place: Place,
-    /// When the next part begins: milliseconds since 1970-01-01T00:00:00Z, rounded up. It is the least time that a break may set.
+    /// When the next part begins, in milliseconds since 1970-01-01T00:00:00Z, rounded up: the earliest time that a break can set.
     pub time: u64,
 }
 
 impl Standing {
-    /// Reads an origin's answer, `at COUNT NUMBER INDEX END TIME`, and then perhaps ` ended`. The line is without its end.
+    /// Reads an origin's answer `at COUNT NUMBER INDEX END TIME`, then ` ended` if the rendition has ended; `line` is without its end.
     pub fn read(line: &str) -> Option<Standing>
         ensures { result ≡ spec.standing.read line.now }
     {
@@ -30,7 +30,7 @@ impl Standing {
     }
 }
 
-/// Reads the standing with which a text begins.
+/// Reads the standing that `text` begins with, and returns the rest too.
 fn standing_at(text: &str) -> Option<(Standing, &str)>
     ensures { spec.numbers_format.read text.now ≡ option_map (λ r. (spec.numbers_of r.0, r.1.now)) result }
 {
@@ -48,7 +48,7 @@ fn standing_at(text: &str) -> Option<(Standing, &str)>
     Some((Standing { count, place, time }, rest))
 }
 
-/// Reads a Media Sequence Number, an index and a number of microseconds, with a space between two of them.
+/// Reads a Media Sequence Number, a Part Index and a number of microseconds, with a space between two of them.
 fn place_at(text: &str) -> Option<((u64, u64, u64), &str)>
     ensures { spec.place_format.read text.now ≡ option_map (λ r. ((r.0.0, (r.0.1, r.0.2)), r.1.now)) result }
 {

@@ -1,4 +1,4 @@
--- What texts come to, from what their playlists come to.
+-- The result for texts, from the result for their playlists.
 use Rattle.std.proofs.Common.{◌≡◌, List, ℕ, None, Result, Ok, ap, ◌∙◌}
 use Rattle.ll_line.specs.Playlist.{Playlist}
 use Rattle.ll_line.specs.Spelling.{spelling}
@@ -11,7 +11,7 @@ use Rattle.ll_apply.specs.declared.fault.ApplyFault.{ApplyFault}
 abbrev spelled : Result Playlist ApplyFault → Result (List ℕ) ApplyFault
 spelled r = and_then r (λ p. Ok (spelling p))
 
--- texts that are read back come to the text of what their playlists come to
+-- the result for texts that are read back is the text of the result for their playlists
 pub by-playlists : (base delta p : Playlist) → playlist_in (spelling base) ≡ Ok base → base.skipped ≡ None → playlist_in (spelling delta) ≡ Ok delta
     → applied base delta ≡ Ok p → applied_text (spelling base) (spelling delta) ≡ Ok (spelling p)
 by-playlists base delta p read_base full read_delta is =

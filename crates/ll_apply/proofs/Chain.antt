@@ -1,4 +1,4 @@
--- What comes of two texts, once it is known what was found of each.
+-- The result for two texts, once it is known what was read of each.
 use Rattle.std.proofs.Common.{◌≡◌, ℕ, List, Option, Some, None, IfSome, Result, Ok, Err, IsOk, IsErrOf, is_ok, refl, ap, sym, ◌∙◌}
 use Rattle.ll_line.specs.Playlist.{Skip, Playlist}
 use Rattle.ll_line.specs.Spelling.{spelling}
@@ -22,14 +22,14 @@ has_by : (s : Option Skip) (b d : Playlist) → None ≡ missing_by_skip s b d �
 has_by None b d e = refl
 has_by (Some skip) b d e = ap (λ o. unless_missing o (updated b d skip)) (sym e)
 
--- where a number is missing
+-- if a number is missing
 pub not-recent : (x y : Result Playlist ApplyFault) (n : ℕ) (o u : Found) → IsFound o x → IsFound u y
     → ((b d : Playlist) → o.outline ≡ outline_of b → u.outline ≡ outline_of d → Some n ≡ missing_of b d) → chain x y ≡ Err (NotRecent n)
 not-recent (Err g) y n o u found also lacks = absurd found
 not-recent (Ok b) (Err g) n o u found also lacks = absurd also
 not-recent (Ok b) (Ok d) n o u found also lacks = ap (λ p. and_then p (λ p. Ok (spelling p))) (lacks_by d.skipped b d n (lacks b d found.0 also.0))
 
--- where none is, there is a text
+-- if none is, there is a text
 pub goes : (x y : Result Playlist ApplyFault) (o u : Found) → IsFound o x → IsFound u y
     → ((b d : Playlist) → o.outline ≡ outline_of b → u.outline ≡ outline_of d → None ≡ missing_of b d) → IsOk (chain x y)
 goes (Err g) y o u found also has = absurd found

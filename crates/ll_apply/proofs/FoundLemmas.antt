@@ -1,4 +1,4 @@
--- What was found of a text says whether it skips, and its numbers are those that were read.
+-- What was read of a text determines whether it skips, and its numbers are those that were read.
 use Rattle.std.proofs.Common.{◌≡◌, ◌≤◌, ℕ, List, [], ◌∷◌, ◌++◌, map, true, Option, Some, None, is_some, IfSome, Result, Ok, Err, refl, ap, sym, subst, ◌∙◌}
 use Rattle.std.specs.List.{flat_map}
 use Rattle.std.specs.Option.{option_map}

@@ -37,7 +37,7 @@ not-recent base delta skip number e h =
     least-missing base delta.sequence skip.count number
     (missed (missing base delta.sequence skip.count) (updated base delta skip) number (ap (λ s. applied_by s base delta) (sym e) ∙ h))
 
--- the numbers that a playlist lacks, by how it lies to the numbers asked for
+-- the numbers that a playlist lacks, by where the numbers asked for begin and end
 
 one_more : (m n : ℕ) → m + 1 + n ≡ m + suc n
 one_more m n = omega arith
@@ -45,7 +45,7 @@ one_more m n = omega arith
 pub missing-above : (base : Playlist) (m n : ℕ) → base.sequence + length base.segments ≤ m → missing base m (suc n) ≡ Some m
 missing-above base m n high = let e : has base m ≡ false = grind (arith, nat_tests) in ap (λ b. missing_by b m (missing base (m + 1) n)) e
 
--- the first number past the playlist, where the numbers asked for begin within it and end past it
+-- the first number past the playlist, if the numbers asked for begin within it and end past it
 pub missing-past : (base : Playlist) (left m n : ℕ) → base.sequence ≤ m → m + left ≡ base.sequence + length base.segments → left < n
     → missing base m n ≡ Some (m + left)
 missing-past base zero m (suc n) low is more = missing-above base m n (omega arith) ∙ ap Some (omega arith)
@@ -56,7 +56,7 @@ missing-past base (suc left) m (suc n) low is more =
     ∙ ap Some (one_more m left)
 missing-past base left m zero low is more = absurd (omega arith)
 
--- none, where they begin and end within it
+-- none, if they begin and end within it
 
 has_one : (low count m : ℕ) → low ≤ m → suc m ≤ low + count → (nat_le low m && nat_lt m (low + count)) ≡ true
 has_one low count m a b = grind (arith, nat_tests)

@@ -1,4 +1,4 @@
--- What a playlist lacks, as its outline tells it.
+-- What a playlist lacks, by its outline.
 use Rattle.std.proofs.Common.{◌≡◌, ℕ, ◌+◌, ◌-◌, ◌≤◌, ◌<◌, Some, None, ap, sym, arith}
 use Rattle.ll_line.specs.Playlist.{Playlist}
 use Rattle.ll_read.specs.Outline.{outline_of}

@@ -37,7 +37,7 @@ pub shown-none : (ss : List Finished) → map (shown false) ss ≡ map without_p
 shown-none [] = refl
 shown-none (s ∷ ss) = ap (λ ts. without_parts s ∷ ts) (shown-none ss)
 
--- a text with the update's segments alone, where none is kept
+-- a text with the update's segments alone, if none is kept
 pub pushed-own : (old whole : List ℕ) (before : Option (List ℕ)) (kept own : List Finished) → kept ≡ []
     → whole ≡ old ++ text_of (lines_from true None (map (shown true) own)) → whole ≡ old ++ text_of (both_lines before kept own)
 pushed-own old whole before kept own none is =

@@ -1,4 +1,4 @@
--- What a delta update makes of an earlier playlist (sections 4.4.5.2 and 6.2.5.1).
+-- The playlist that a delta update makes of an earlier one (sections 4.4.5.2 and 6.2.5.1).
 use Rattle.std.specs.Prelude.{ℕ, zero, suc, ◌+◌, ◌-◌, List, [], ◌∷◌, ◌++◌, Bool, true, false, not, ◌&&◌, Option, Some, None, Result, Ok, Err, length, map, filter, take, drop, nat_le, nat_lt, bytes_eq}
 use Rattle.std.specs.List.{list_any}
 use Rattle.ll_line.specs.Playlist.{Finished, DateRangeLine, Skip, Playlist}
@@ -24,17 +24,16 @@ abbrev pub unless_broken : Bool → Finished → Finished
 unless_broken true s = s
 unless_broken false s = with_map None s
 
--- segments with their maps in force, as the lines of a full playlist: a MAP line stands at the first segment and at each
--- broken one
+-- segments with their maps in force, as the lines of a full playlist: a MAP line stands at the first segment and at each broken one
 abbrev pub mapped : List Finished → List Finished
 mapped [] = []
 mapped (s ∷ more) = s ∷ map (λ t. unless_broken t.block.broken t) more
 
--- so many segments of a playlist from this number on, with the maps in force, and without parts
+-- `count` segments of a playlist from the number `number` on, with the maps in force, and without parts
 abbrev pub kept_segments : Playlist → ℕ → ℕ → List Finished
 kept_segments base number count = map without_parts (take count (drop (number - base.sequence) (in_force None base.segments)))
 
--- whether a playlist has a finished segment of this number
+-- whether a playlist has a finished segment of the number `number`
 abbrev pub has : Playlist → ℕ → Bool
 has p number = nat_le p.sequence number && nat_lt number (p.sequence + length p.segments)
 
@@ -42,7 +41,7 @@ abbrev pub missing_by : Bool → ℕ → Option ℕ → Option ℕ
 missing_by true number later = later
 missing_by false number later = Some number
 
--- the least of so many numbers from this one on of which a playlist has no finished segment
+-- the smallest of `count` numbers, from `number` on, of which a playlist has no finished segment
 abbrev pub missing : Playlist → ℕ → ℕ → Option ℕ
 missing p number zero = None
 missing p number (suc count) = missing_by (has p number) number (missing p (number + 1) count)
@@ -50,12 +49,11 @@ missing p number (suc count) = missing_by (has p number) number (missing p (numb
 abbrev pub is_one_of : List ℕ → List (List ℕ) → Bool
 is_one_of id ids = list_any (bytes_eq id) ids
 
--- whether a date range of the earlier playlist stays: it was not taken away, and the update doesn't list it
+-- whether a date range of the earlier playlist stays: it wasn't removed, and the update doesn't list it
 abbrev pub stays : List (List ℕ) → List DateRangeLine → DateRangeLine → Bool
 stays removed own r = not (is_one_of r.id removed) && not (is_one_of r.id (map (λ d. d.id) own))
 
--- the update's date ranges, where it doesn't say which were taken away; else those of the earlier playlist that stay, and
--- then the update's
+-- the update's date ranges, if it doesn't say which were removed; else those of the earlier playlist that stay, and then the update's
 abbrev pub ranges_by : Option (List (List ℕ)) → List DateRangeLine → List DateRangeLine → List DateRangeLine
 ranges_by None earlier own = own
 ranges_by (Some removed) earlier own = filter (stays removed own) earlier ++ own
@@ -75,7 +73,6 @@ abbrev pub applied_by : Option Skip → Playlist → Playlist → Result Playlis
 applied_by None base delta = Ok delta
 applied_by (Some skip) base delta = unless_missing (missing base delta.sequence skip.count) (updated base delta skip)
 
--- the playlist that a delta update makes of an earlier one, or why it makes none; a playlist that skips nothing is the
--- result itself
+-- the playlist that a delta update makes of an earlier one, or why it makes none; an update that skips nothing is the result itself
 abbrev pub applied : Playlist → Playlist → Result Playlist ApplyFault
 applied base delta = applied_by delta.skipped base delta

@@ -1,4 +1,4 @@
--- For private contracts: what was found of a text, and what comes of it.
+-- For private contracts: what was read of a text, and what follows from it.
 use Rattle.std.specs.Prelude.{◌≡◌, ◌≤◌, ℕ, List, Option, Some, None, Result, Ok, Err, IfSome, IsOk, Bool, bytes_eq}
 use Rattle.std.specs.Borrow.{Bor}
 use Rattle.std.specs.List.{list_any}
@@ -11,12 +11,12 @@ use Rattle.ll_apply.specs.declared.fault.ApplyFault.{ApplyFault}
 use Rattle.ll_apply.specs.declared.fault.ApplyFault.TheVariants.{Memory}
 use Rattle.ll_apply.specs.declared.found.Found.{Found}
 
--- the outline of the playlist that was read, and it, unless no memory was found for it
+-- the outline of the playlist that a text spells, and the playlist itself, unless memory was missing for it
 abbrev pub IsFound : {E : Type 0} → Found → Result Playlist E → Type 0
 IsFound f (Err fault) = ⊥
 IsFound f (Ok p) = (f.outline ≡ outline_of p) × IfSome f.playlist (λ q. q ≡ p)
 
--- numbers that were read are at most this large
+-- numbers that were read are within their limit
 abbrev pub AreRead : Outline → Type 0
 AreRead o = (o.sequence ≤ largest_number) × IfSome o.skipped (λ n. n ≤ largest_number)
 
@@ -24,7 +24,7 @@ abbrev pub missing_by_skip : Option Skip → Playlist → Playlist → Option �
 missing_by_skip None base delta = None
 missing_by_skip (Some skip) base delta = missing base delta.sequence skip.count
 
--- the least number that an update skips and a playlist lacks
+-- the smallest number that an update skips and a playlist lacks
 abbrev pub missing_of : Playlist → Playlist → Option ℕ
 missing_of base delta = missing_by_skip delta.skipped base delta
 
@@ -36,12 +36,12 @@ merged_by (Some skip) base delta = updated base delta skip
 abbrev pub merged : Playlist → Playlist → Playlist
 merged base delta = merged_by delta.skipped base delta
 
--- an answer is this one, or out of memory where there is a text
+-- the answer is `right`, or out of memory if that is a text
 abbrev pub IsAnswer : Result (List ℕ) ApplyFault → Result (List ℕ) ApplyFault → Type 0
 IsAnswer (Ok text) right = right ≡ Ok text
 IsAnswer (Err Memory) right = IsOk right
 IsAnswer (Err fault) right = right ≡ Err fault
 
--- whether an id is one of these borrowed texts
+-- whether an id is one of the borrowed texts
 abbrev pub is_among : List ℕ → List (Bor (List ℕ)) → Bool
 is_among id texts = list_any (λ (text : Bor (List ℕ)). bytes_eq id text.now) texts

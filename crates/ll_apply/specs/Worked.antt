@@ -1,11 +1,10 @@
--- The definition at a worked example: an earlier playlist, a delta update that takes one date range away and changes another, and what
--- comes of them.
+-- A worked example: an earlier playlist, a delta update that removes one date range and changes another, and the result of applying it.
 use Rattle.std.specs.Prelude.{◌≡◌, ℕ, List, [], ◌∷◌, false, Option, Some, None, Ok, Err, codes}
 use Rattle.ll_line.specs.Playlist.{DateRangeLine, Finished, Playlist, Skip}
 use Rattle.ll_apply.specs.Applied.{applied}
 use Rattle.ll_apply.specs.declared.fault.ApplyFault.TheVariants.{NotRecent}
 
--- a segment of a second without parts
+-- a segment of one second, without parts
 abbrev pub segment : Option (List ℕ) → List ℕ → Finished
 segment map uri = record { block = record { broken = false; map = map; time = codes "noon"; parts = [] }; duration = 1000000; uri = uri }
 
@@ -39,7 +38,7 @@ c = record { id = codes "c"; attributes = [] }
 abbrev pub earlier : Playlist
 earlier = playlist 4 (a ∷ b ∷ c ∷ []) None (segment (Some (codes "init")) (codes "s4") ∷ segment None (codes "s5") ∷ [])
 
--- the first segment is skipped, `a` is gone, and `b` has another attribute
+-- the first segment is skipped, `a` is removed, and `b` has another attribute
 abbrev pub update : Playlist
 update = playlist 5 (other_b ∷ []) (Some (record { count = 1; removed = Some (codes "a" ∷ []) })) (segment None (codes "s6") ∷ [])
 

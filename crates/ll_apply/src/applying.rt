@@ -1,3 +1,4 @@
+//! Delta updates, applied to earlier playlists.
 ghost use Rattle.std.specs.Prelude.{◌≡◌, ◌≢◌, Result, IfOk, IfErr, IsOk, IsErrOf, Ok, Err};
 ghost use Rattle.ll_apply.specs.Applied as spec;
 ghost use Rattle.ll_apply.specs.Found as found;
@@ -18,14 +19,12 @@ use ll_attr::Text;
 use ll_read::{Outline, Playlist, Skip};
 use std::alloc::{AllocError, Global};
 
-/// The text of the full playlist that a delta update makes of an earlier full playlist (section 6.2.5.1). The segments that
-/// the update skips are those of the earlier playlist, without their parts and with the maps that are in force; all else is the
-/// update's, but for date ranges where it lists those that were taken away. An update that skips nothing is the result itself. LF
-/// ends each line.
+/// Applies the delta update `delta` to the earlier full playlist `base` (section 6.2.5.1), and returns the text of the resulting full playlist, with
+/// LF at the end of each line. The segments that the update skips are those of the earlier playlist, without their parts and with the maps that are
+/// in force. All else is the update's, except for date ranges if it lists those that were removed. An update that skips nothing is the result itself.
 ///
-/// Where there is no such playlist the first fault is told; out of memory comes after all others. Where both texts are
-/// of one rendition, and the parts after the earlier one last no longer than the skip limit, there is one: the full playlist at
-/// the moment of the update.
+/// Fails with the first fault; `Memory` comes after all others. If both texts are of one rendition, and the parts after the earlier one last no
+/// longer than the Skip Boundary, it succeeds unless out of memory: the result is the full playlist at the moment of the update.
 pub fn apply(alloc: Global, base: &[u8], delta: &[u8]) -> Result<Text, ApplyFault>
     ensures value { IfOk result (λ text. applied_text base.now delta.now ≡ Ok text) }
     ensures refused { IfErr result (λ fault. fault ≢ ApplyFault.Memory → applied_text base.now delta.now ≡ Err fault) }
@@ -38,7 +37,7 @@ pub fn apply(alloc: Global, base: &[u8], delta: &[u8]) -> Result<Text, ApplyFaul
     }
 }
 
-/// The same of an earlier playlist that was found.
+/// Applies the update in `delta` to an earlier playlist that was read.
 fn apply_to(alloc: Global, base: &Found, delta: &[u8]) -> Result<Text, ApplyFault>
     ensures { (x : Result Playlist ApplyFault) → IsFound base.now x → IsAnswer result (chain x (delta_of (playlist_in delta.now))) }
 {
@@ -48,7 +47,7 @@ fn apply_to(alloc: Global, base: &Found, delta: &[u8]) -> Result<Text, ApplyFaul
     }
 }
 
-/// The same of an update that was found.
+/// Applies an update that was read to an earlier playlist that was read.
 fn apply_found(alloc: Global, base: &Found, delta: &Found) -> Result<Text, ApplyFault>
     requires { AreRead delta.now.outline }
     ensures { (x y : Result Playlist ApplyFault) → IsFound base.now x → IsFound delta.now y → IsAnswer result (chain x y) }
@@ -65,7 +64,7 @@ fn apply_found(alloc: Global, base: &Found, delta: &Found) -> Result<Text, Apply
     }
 }
 
-/// The least number that an update skips and an earlier playlist lacks.
+/// Returns the smallest Media Sequence Number that an update skips and an earlier playlist lacks.
 fn missing_of(base: Outline, delta: Outline) -> Option<u64>
     requires { AreRead delta }
     ensures { (b d : Playlist) → base ≡ outline_of b → delta ≡ outline_of d → result ≡ found.missing_of b d }
@@ -73,7 +72,7 @@ fn missing_of(base: Outline, delta: Outline) -> Option<u64>
     missing(base, delta.sequence, delta.skipped?)
 }
 
-/// The text of the playlist that an update makes of one that lacks nothing.
+/// Writes the playlist that an update makes of one that lacks nothing.
 fn merged(alloc: Global, base: &Playlist, delta: &Playlist) -> Result<Text, AllocError>
     ensures { IfOk result (λ text. text ≡ spelling (found.merged base.now delta.now)) }
 {
@@ -83,7 +82,7 @@ fn merged(alloc: Global, base: &Playlist, delta: &Playlist) -> Result<Text, Allo
     }
 }
 
-/// The text of the playlist that an update with this skip line makes of an earlier one.
+/// Writes the playlist that an update with the skip line `skip` makes of an earlier one.
 fn with_skipped(
     alloc: Global,
     base: &Playlist,

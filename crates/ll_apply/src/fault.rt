@@ -1,26 +1,26 @@
+//! Why a delta update can't be applied.
 ghost use Rattle.std.specs.Prelude.{Some};
 ghost use Rattle.ll_apply.specs.Faults.{fault_text};
 
 use std::error::Error;
 use std::fmt;
 
-/// Why there is no full playlist: the first of these that applies. Memory is answered only where there is no
-/// other fault.
+/// The reason that there is no full playlist: the first of these that applies.
 #[derive(Clone, Copy, Debug, PartialEq, Eq)]
 pub enum ApplyFault {
-    /// The earlier text is no full playlist of this profile: it is no playlist at all, or a delta update itself. `ll_read::read`
-    /// tells the line that can't stand in its place.
+    /// The earlier text is no full playlist of this profile: it is no playlist at all, or a delta update itself. In the first case `ll_read::read`
+    /// returns the line that isn't allowed in its place.
     BadBase,
-    /// The later text is no playlist of this profile. `ll_read::read` tells the line that can't stand in its place.
+    /// The later text is no playlist of this profile. `ll_read::read` returns the line that isn't allowed in its place.
     BadDelta,
-    /// The update skips a segment that the earlier playlist lacks: `number` is the least media sequence number of these
-    /// (section 6.2.5.1).
+    /// The update skips a segment that the earlier playlist lacks: `number` is the smallest Media Sequence Number of such a segment (section
+    /// 6.2.5.1).
     NotRecent { number: u64 },
     /// Out of memory.
     Memory,
 }
 
-/// Its name, and after a space its number, where it has one.
+/// Writes its name, and its number after a space, if it has one.
 impl fmt::Display for ApplyFault {
     ghost output = { λ fault. Some (fault_text fault) };
 

@@ -1,3 +1,4 @@
+//! The two playlists, read from their texts.
 ghost use Rattle.std.specs.Prelude.{◌≡◌, IfOk, IfErr, Err};
 ghost use Rattle.ll_apply.specs.Found.{AreRead, IsFound};
 ghost use Rattle.ll_apply.specs.Texts.{base_of, delta_of};
@@ -7,15 +8,15 @@ use crate::fault::ApplyFault;
 use ll_read::{Outline, Playlist, ReadFault, read, read_outline};
 use std::alloc::Global;
 
-/// What a text spells. Where no memory is found for the playlist its outline is told alone, so that each fault of the texts
-/// comes before out of memory.
+/// The playlist that a text spells, with its outline. Out of memory there is the outline alone, so that each fault of the texts comes before out of
+/// memory.
 #[derive(Drop)]
 pub(crate) struct Found {
     pub(crate) outline: Outline,
     pub(crate) playlist: Option<Playlist>,
 }
 
-/// What a text spells.
+/// Reads the playlist that a text spells.
 fn look(alloc: Global, bytes: &[u8]) -> Result<Found, ReadFault>
     ensures found { IfOk result (λ f. IsFound f (playlist_in bytes.now)) }
     ensures refused { IfErr result (λ fault. playlist_in bytes.now ≡ Err fault) }
@@ -33,7 +34,7 @@ fn look(alloc: Global, bytes: &[u8]) -> Result<Found, ReadFault>
     }
 }
 
-/// What the earlier text spells: a full playlist.
+/// Reads the earlier text, which must be a full playlist.
 pub(crate) fn look_at_base(alloc: Global, bytes: &[u8]) -> Result<Found, ApplyFault>
     ensures found { IfOk result (λ f. IsFound f (base_of (playlist_in bytes.now))) }
     ensures refused { IfErr result (λ fault. base_of (playlist_in bytes.now) ≡ Err fault) }
@@ -50,7 +51,7 @@ pub(crate) fn look_at_base(alloc: Global, bytes: &[u8]) -> Result<Found, ApplyFa
     }
 }
 
-/// What the later text spells, whose numbers are not too large to be added.
+/// Reads the later text. Its numbers are small enough to be added.
 pub(crate) fn look_at_delta(alloc: Global, bytes: &[u8]) -> Result<Found, ApplyFault>
     ensures found { IfOk result (λ f. IsFound f (delta_of (playlist_in bytes.now))) }
     ensures refused { IfErr result (λ fault. delta_of (playlist_in bytes.now) ≡ Err fault) }

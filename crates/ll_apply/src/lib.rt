@@ -1,4 +1,4 @@
-//! What a delta update makes of an earlier playlist (section 6.2.5.1 of draft-pantos-hls-rfc8216bis).
+//! Delta updates, applied to earlier playlists (section 6.2.5.1 of draft-pantos-hls-rfc8216bis).
 #![tactic(auto)]
 
 mod applying;

@@ -1,3 +1,4 @@
+//! The segments that an earlier playlist lacks.
 ghost use Rattle.std.specs.Prelude.{◌≡◌, ◌+◌, ◌<◌, ◌^◌};
 ghost use Rattle.ll_apply.specs.Applied as spec;
 ghost use Rattle.ll_line.specs.Playlist.{Playlist};
@@ -5,7 +6,7 @@ ghost use Rattle.ll_read.specs.Outline.{outline_of};
 
 use ll_read::Outline;
 
-/// The least of so many media sequence numbers from this one on of which a playlist has no finished segment.
+/// Returns the smallest of `count` Media Sequence Numbers, from `from` on, of which the playlist with the outline `base` has no finished segment.
 pub(crate) fn missing(base: Outline, from: u64, count: u64) -> Option<u64>
     requires { from + count < 2 ^ 64 }
     ensures { (p : Playlist) → base ≡ outline_of p → result ≡ spec.missing p from count }

@@ -1,4 +1,4 @@
-//! The date ranges of the playlist that an update makes of an earlier one, as text.
+//! The date ranges of a playlist to which an update is applied, as text.
 ghost use Rattle.std.specs.Prelude.{◌≡◌, ◌++◌, ℕ, List, IfOk, OnOk, string_bytes, map, filter};
 ghost use Rattle.std.specs.Option.{option_map};
 ghost use Rattle.ll_apply.specs.Applied.{ranges_by};
@@ -13,8 +13,8 @@ use ll_line::{DateRange, Line, push_line};
 use ll_read::Playlist;
 use std::alloc::{AllocError, Global};
 
-/// Adds the date ranges: those of the update, where it doesn't say which were taken away; else those of the earlier playlist
-/// that stay, and then the update's.
+/// Appends the date ranges: those of the update, if it doesn't say which were removed; else those of the earlier playlist that stay, and then the
+/// update's.
 pub(crate) fn push_ranges(
     text: &mut String,
     base: &Playlist,
@@ -30,7 +30,7 @@ pub(crate) fn push_ranges(
     delta.push_ranges(text)
 }
 
-/// Adds the date ranges of an earlier playlist that were not taken away and that the update doesn't list.
+/// Appends the date ranges of the earlier playlist that weren't removed and that the update doesn't list.
 fn push_staying(
     text: &mut String,
     base: &Playlist,
@@ -51,7 +51,7 @@ fn push_staying(
     Ok(())
 }
 
-/// Whether a date range was not taken away, and the update doesn't list it.
+/// Returns whether a date range wasn't removed and the update doesn't list it.
 fn stays(removed: &IndexSet<&str>, delta: &Playlist, range: DateRange<'_>) -> bool
     ensures { (ids : List (List ℕ)) → ((id : List ℕ) → is_among id removed.now.keys ≡ spec.is_one_of id ids)
         → result ≡ spec.stays ids delta.now.ranges (record { id = range.entry.id.now; attributes = range.entry.attributes.now }) }
@@ -59,7 +59,7 @@ fn stays(removed: &IndexSet<&str>, delta: &Playlist, range: DateRange<'_>) -> bo
     !removed.contains(range.id) && !delta.has_range(range.id)
 }
 
-/// These ids as a set.
+/// Returns the ids as a set.
 fn set_of(alloc: Global, ids: &[Text]) -> Result<IndexSet<&str>, AllocError>
     ensures { IfOk result (λ set. (id : List ℕ) → is_among id set.keys ≡ spec.is_one_of id ids.now) }
 {

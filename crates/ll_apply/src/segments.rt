@@ -1,4 +1,4 @@
-//! The segments of the playlist that an update makes of an earlier one, as text.
+//! The segments of a playlist to which an update is applied, as text.
 ghost use Rattle.std.specs.Prelude.{◌≡◌, ◌++◌, OnOk, string_bytes, map, take, drop};
 ghost use Rattle.std.specs.Option.{option_map};
 ghost use Rattle.ll_apply.specs.Applied.{or_else, with_map};
@@ -11,8 +11,8 @@ use ll_line::{DateTime, Line, Uri, push_line};
 use ll_read::Finished;
 use std::alloc::AllocError;
 
-/// Adds the segments that are kept of an earlier playlist, so many from this place on and without their parts, and then those
-/// of the update. A MAP line stands at the first of all, and at each broken one.
+/// Appends `count` segments of an earlier playlist from the place `from` on, without their parts, and then those of the update, `own`. A MAP line
+/// stands at the first of all, and at each broken one.
 pub(crate) fn push_segments(
     text: &mut String,
     base: &[Finished],
@@ -26,7 +26,7 @@ pub(crate) fn push_segments(
     push_both(text, map_after(None, gone), kept, own)
 }
 
-/// The segments before the kept ones, which begin at this place, and so many kept ones.
+/// Returns the segments before the place `from`, and the `count` segments from there on, or fewer if the list ends.
 fn split_kept(segments: &[Finished], from: usize, count: usize) -> (&[Finished], &[Finished])
     ensures gone { result.0.now ≡ take from segments.now }
     ensures kept { result.1.now ≡ take count (drop from segments.now) }
@@ -36,7 +36,7 @@ fn split_kept(segments: &[Finished], from: usize, count: usize) -> (&[Finished],
     (gone, kept)
 }
 
-/// Adds kept segments after this map in force, without their parts, and then those of the update. The first of all leads.
+/// Appends `kept` segments, without their parts, and then those of the update. The first of all leads; `before` is the map in force before it.
 fn push_both(
     text: &mut String,
     before: Option<&str>,
@@ -53,7 +53,7 @@ fn push_both(
     push_in_order(text, own, map_after(before, kept), false, true)
 }
 
-/// The map in force after segments, where this one is in force before them.
+/// Returns the map in force after `segments`; `before` is the one before them.
 fn map_after<'a>(before: Option<&'a str>, segments: &'a [Finished]) -> Option<&'a str>
     ensures { option_map (λ uri. uri.now) result ≡ force_after (option_map (λ uri. uri.now) before.entry) segments.now }
 {
@@ -64,7 +64,7 @@ fn map_after<'a>(before: Option<&'a str>, segments: &'a [Finished]) -> Option<&'
     map
 }
 
-/// The map in force at a segment, where this one is in force before it.
+/// Returns the map in force at a segment; `before` is the one before it.
 fn map_at<'a>(before: Option<&'a str>, segment: &'a Finished) -> Option<&'a str>
     ensures { option_map (λ uri. uri.now) result ≡ or_else segment.now.block.map (option_map (λ uri. uri.now) before.entry) }
 {
@@ -74,7 +74,7 @@ fn map_at<'a>(before: Option<&'a str>, segment: &'a Finished) -> Option<&'a str>
     }
 }
 
-/// Adds segments after this map in force, with their parts or without them. The first of them leads the playlist or doesn't.
+/// Appends segments, with their parts or without them; `before` is the map in force before them. The first one leads the playlist if `leads`.
 fn push_in_order(
     text: &mut String,
     segments: &[Finished],
@@ -95,7 +95,7 @@ fn push_in_order(
     Ok(())
 }
 
-/// Adds a segment with this map, with its parts or without them.
+/// Appends a segment with a MAP line for `map`, if there is one, and with its parts or without them.
 fn push_segment(
     text: &mut String,
     segment: &Finished,

@@ -1,4 +1,4 @@
--- A text of digits is what `parse` reads as its value: it has no sign, and up to 19 digits always fit 64 bits. No point stands in it.
+-- `parse` reads a text of digits as its value: it has no sign, and up to 19 digits always fit 64 bits. It has no point in it.
 use Rattle.std.proofs.Common.{◌≡◌, ℕ, ◌≤◌, ◌<◌, ◌^◌, ◌&&◌, ◌==◌, Bool, true, false, List, [], ◌∷◌, length, refl, ap, sym, arith, nat_lt, Some, None, if◌then◌else◌, Result, Ok, Err}
 use Rattle.std.proofs.lemmas.Bool.Decides.{nat_tests}
 use Rattle.std.proofs.lemmas.List.Elements.{All-from_recursion}
@@ -25,7 +25,7 @@ parsed_cases : {E : Type 0} (most : ℕ) (text : List ℕ) (r : Result ℕ E) �
 parsed_cases most text (Ok n) h parsed = grind (arith, nat_tests)
 parsed_cases most text (Err e) h parsed = grind (arith, nat_tests)
 
--- what `parse` gives of at most so many digits
+-- what `parse` returns of at most `most` digits
 pub number_in-parsed : {E : Type 0} (most : ℕ) (text : List ℕ) (r : Result ℕ E) → is_digits most text ≡ true → ParsesUnsigned 64 10 text r → result_ok r ≡ number_in most text
 number_in-parsed most text r h parsed =
     parsed_cases most text r h (parse_digits digits_model 64 text r parsed (is_digits-parts most text h).2)

@@ -1,4 +1,4 @@
--- What a text begins with that spells an attribute list: the first attribute's name, an equals sign and its value.
+-- A text that spells an attribute list begins with the first attribute's name, an equals sign and its value.
 use Rattle.std.proofs.Common.{◌≡◌, ℕ, ◌&&◌, Bool, true, false, List, [], ◌∷◌, ◌++◌, refl, ap, sym, ◌∙◌, take, drop, append_assoc, Some, None, Ok, if◌then◌else◌}
 use Rattle.std.proofs.lemmas.List.{append-nil}
 use Rattle.std.specs.List.{list_all, list_any, after_first}

@@ -1,3 +1,4 @@
+-- Lemmas of texts, numbers, durations and attribute lists.
 pub mod MicrosAtCut
 pub mod Digits
 pub mod Fractions

@@ -1,4 +1,4 @@
--- What stands before the first equals sign of a part and what stands after it.
+-- What is before the first equals sign of a part and what follows it.
 use Rattle.std.proofs.Common.{◌≡◌, ℕ, suc, ◌+◌, ◌<◌, ◌&&◌, ◌||◌, Bool, true, false, not, List, [], ◌∷◌, ◌++◌, length, take, drop, cond, refl, ap, sym, ◌∙◌, arith}
 use Rattle.std.proofs.lemmas.Bool.Decides.{nat_tests}
 use Rattle.std.specs.List.{list_any, before_first, after_first, position_or_len}
@@ -9,7 +9,7 @@ any_by : (x rest : Bool) (n m : ℕ) → (rest ≡ false → n ≡ m) → (rest 
 any_by true rest n m none some = (λ e. cc, λ e. omega arith)
 any_by false rest n m none some = (λ e. omega (arith, none e), λ e. omega (arith, some e))
 
--- the first equals sign has a place just where one stands
+-- the first equals sign has a place exactly if there is one
 place : (part : List ℕ) → (list_any is_equals part ≡ false → position_or_len is_equals part ≡ length part) × (list_any is_equals part ≡ true → position_or_len is_equals part < length part)
 place [] = (λ e. refl, λ e. cc)
 place (b ∷ bs) =

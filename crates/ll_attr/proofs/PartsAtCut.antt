@@ -6,7 +6,7 @@ use Rattle.std.proofs.lemmas.List.Sums.{fails_before_first}
 use Rattle.std.specs.List.{All, position_or_len, before_first, after_first}
 use Rattle.ll_attr.specs.Words.{pieces_at}
 
--- where no separator stands, the text is its one part
+-- a text without a separator is its one part
 parts_at-uncut : (c : ℕ) (text : List ℕ) → position_or_len (λ b. b == c) text ≡ length text → pieces_at c text ≡ text ∷ []
 parts_at-uncut c text e =
     let none : All (λ b. (b == c) ≡ false) text =

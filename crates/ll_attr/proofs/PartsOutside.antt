@@ -36,7 +36,7 @@ after_by : (x : Bool) (b n d : ℕ) (bs ds : List ℕ) → drop (len_by x n) (b 
 after_by true b n d bs ds e here more = let is = here refl in cc
 after_by false b n d bs ds e here more = more e
 
--- after the first part stands nothing or a comma
+-- the first part is followed by nothing or a comma
 pub after_comma : (quoted : Bool) (text : List ℕ) (d : ℕ) (ds : List ℕ) → drop (part_len quoted text) text ≡ d ∷ ds → d ≡ 44
 after_comma quoted [] d ds e = cc
 after_comma quoted (b ∷ bs) d ds e =

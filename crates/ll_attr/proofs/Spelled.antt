@@ -11,7 +11,7 @@ use Rattle.ll_attr.proofs.Names.{part_joined}
 use Rattle.ll_attr.proofs.PartsOutside.{join_outside}
 use Rattle.ll_attr.proofs.Values.{value_spelled}
 
--- what is read of a part, by whether it is named, whether its name stands before, its name and its value
+-- what is read of a part, by whether it is named, whether its name was given before, its name and its value
 abbrev pub read_by : Bool → Bool → List ℕ → Option AttrValue → Result Attribute AttrFault
 read_by x y name v = if not x then Err BadName else if y then Err Twice else valued name v
 

@@ -7,7 +7,7 @@ use Rattle.ll_attr.specs.declared.attributes.Attribute.{Attribute}
 use Rattle.ll_attr.proofs.PartsOutside.{parts_after, first_part, join_outside}
 use Rattle.ll_attr.proofs.Spelled.{read_by, then_ok, parts_spelled}
 
--- each name that stands among the first stands among the second
+-- each name among the first is among the second
 abbrev Within : List (List ℕ) → List (List ℕ) → Type 0
 Within few many = (name : List ℕ) → list_any (bytes_eq name) many ≡ false → list_any (bytes_eq name) few ≡ false
 

@@ -54,7 +54,7 @@ end_by false inner b parts h = front_part inner b parts
 some_left : (b : ℕ) (bs : List ℕ) → (length (b ∷ bs) == 0) ≡ false
 some_left b bs = grind (arith, nat_tests)
 
--- what stands between two marks, by what stands before the first and after the second
+-- what is between two marks, by what is before the first and after the second
 pub inner_by_cut : (before inner end : List ℕ) → inner_of (before ∷ inner ∷ pieces_at 34 end)
     ≡ inner_if (length before == 0 && (length end == 0 && list_all is_quoted_byte inner)) inner
 inner_by_cut (b ∷ bs) inner end =

@@ -1,3 +1,4 @@
+-- Definitions of texts, numbers, durations and attribute lists.
 pub mod Attributes
 pub mod Durations
 pub mod Numbers

@@ -1,7 +1,7 @@
 -- The end of the year 9999: the last moment that is spelled with four digits of a year.
 use Rattle.std.specs.Prelude.{ℕ}
 
--- its last millisecond and its last microsecond, from 1970-01-01T00:00:00Z on
+-- its last millisecond and its last microsecond, counted from 1970-01-01T00:00:00Z
 abbrev pub last_milli : ℕ
 last_milli = 253402300799999
 

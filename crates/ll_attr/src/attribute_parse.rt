@@ -1,4 +1,4 @@
-//! Attribute lists, read.
+//! Parses attribute lists (section 4.2), and finds the first fault of a text that is none.
 ghost use Rattle.std.specs.Prelude.{◌≡◌, ◌≢◌, ◌++◌, ◌∷◌, ℕ, List, [], false, IfOk, IfErr, IfSome, IsOk, IsErrOf, Ok, Err, None, Some, MatchOption, if◌then◌else◌, bytes_eq, take};
 ghost use Rattle.std.specs.List.{list_any, after_first};
 ghost use Rattle.ll_attr.specs.Attributes.{attributes_in, attribute_in, parts_outside, spelling, value_in, is_equals};
@@ -16,8 +16,8 @@ use std::alloc::{AllocError, Global};
 
 #[tactic(auto, using(crate::proofs::Spelled::written_again, crate::proofs::Spelled::read_again))]
 impl AttrList {
-    /// The attribute list that a text spells, as `NAME=VALUE,NAME="VALUE"` (section 4.2), or the text's first fault from
-    /// the left. Out of memory comes after all other faults.
+    /// Parses `text` as an attribute list, `NAME=VALUE,NAME="VALUE"` (section 4.2), or returns its first fault from the
+    /// left. `Memory` comes after all other faults.
     pub fn parse(alloc: Global, text: &str) -> Result<AttrList, AttrFault>
         ensures value { IfOk result (λ list. attributes_in text.now ≡ Ok list) }
         ensures refused { IfErr result (λ fault. fault ≢ AttrFault.Memory → attributes_in text.now ≡ Err fault) }
@@ -33,8 +33,8 @@ impl AttrList {
         }
     }
 
-    /// The first fault of a text from the left; none where it spells an attribute list (section 4.2). Names are compared
-    /// by a set; where memory runs out, they are compared in pairs, so the answer is the same.
+    /// Returns the first fault of `text` from the left, or `None` if it spells an attribute list (section 4.2). Names
+    /// are compared by a set; if memory runs out, they are compared in pairs, with the same result.
     pub fn first_fault(alloc: Global, text: &str) -> Option<AttrFault>
         ensures fault { MatchOption result (IsOk (attributes_in text.now)) (λ fault. attributes_in text.now ≡ Err fault) }
         ensures not_memory { IfSome result (λ fault. fault ≢ AttrFault.Memory) }
@@ -46,7 +46,7 @@ impl AttrList {
     }
 }
 
-/// The attributes of a text that spells some.
+/// Returns the attributes of `text`, which spells an attribute list.
 fn read(alloc: Global, text: &str) -> Result<Vec<Attribute>, AllocError>
     requires { IsOk (attributes_in text.now) }
     ensures { IfOk result (λ attributes. attributes_in text.now ≡ Ok attributes.items) }
@@ -63,7 +63,7 @@ fn read(alloc: Global, text: &str) -> Result<Vec<Attribute>, AllocError>
     }
 }
 
-/// The attribute that a part spells, where it spells one.
+/// Returns the attribute that `part` spells, if it spells one.
 fn attribute_of(alloc: Global, part: &str) -> Result<Attribute, AllocError>
     ensures { IfOk result (λ a. (names : List (List ℕ)) (b : Attribute) → attribute_in names part.now ≡ Ok b → a ≡ b) }
 {
@@ -76,7 +76,7 @@ fn attribute_of(alloc: Global, part: &str) -> Result<Attribute, AllocError>
     Ok(Attribute { name, value })
 }
 
-/// The first fault of a text, whose names are kept in a set.
+/// Returns the first fault of `text`; keeps its names in a set.
 fn fault_by_set(alloc: Global, text: &str) -> Result<Option<AttrFault>, AllocError>
     ensures fault { IfOk result (λ r. MatchOption r (IsOk (attributes_in text.now)) (λ fault. attributes_in text.now ≡ Err fault)) }
     ensures not_memory { IfOk result (λ r. IfSome r (λ fault. fault ≢ AttrFault.Memory)) }
@@ -95,7 +95,7 @@ fn fault_by_set(alloc: Global, text: &str) -> Result<Option<AttrFault>, AllocErr
     }
 }
 
-/// The fault of a part after those whose names a set holds; where it has none, the set holds its name too.
+/// Returns the fault of `part` after parts whose names are in `names`; if it has none, adds its name to them.
 fn new_part_fault<'a>(
     names: &mut IndexSet<&'a str>,
     part: &'a str,
@@ -112,7 +112,7 @@ fn new_part_fault<'a>(
     Ok(value_fault(part))
 }
 
-/// The first fault of a text, whose names are looked for in the text again.
+/// Returns the first fault of `text`; looks for each name in the text again, which takes no memory.
 fn fault_in_pairs(text: &str) -> Option<AttrFault>
     ensures fault { MatchOption result (IsOk (attributes_in text.now)) (λ fault. attributes_in text.now ≡ Err fault) }
     ensures not_memory { IfSome result (λ fault. fault ≢ AttrFault.Memory) }
@@ -132,7 +132,7 @@ fn fault_in_pairs(text: &str) -> Option<AttrFault>
     }
 }
 
-/// BadName, where a part has no name.
+/// Returns `BadName` if `part` has no name.
 fn name_fault(part: &str) -> Option<AttrFault>
     ensures { result ≡ (if is_named part.now then None else Some AttrFault.BadName) }
 {
@@ -142,7 +142,7 @@ fn name_fault(part: &str) -> Option<AttrFault>
     }
 }
 
-/// BadValue, where what stands after a part's first equals sign is no value.
+/// Returns `BadValue` if what follows the first equals sign of `part` is no value.
 fn value_fault(part: &str) -> Option<AttrFault>
     ensures { result ≡ fault_of_value (value_in (after_first is_equals part.now)) }
 {
@@ -152,7 +152,7 @@ fn value_fault(part: &str) -> Option<AttrFault>
     }
 }
 
-/// The first fault of a part after so many parts of a text.
+/// Returns the first fault of `part` after the first `count` parts of `text`.
 fn part_fault(text: &str, count: usize, part: &str) -> Option<AttrFault>
     ensures { result ≡ fault_of (names_of_parts [] (take count (parts_outside false text.now))) part.now }
 {
@@ -168,7 +168,7 @@ fn part_fault(text: &str, count: usize, part: &str) -> Option<AttrFault>
     }
 }
 
-/// Whether one of the first so many parts of a text has this name.
+/// Returns whether one of the first `count` parts of `text` has the name `name`.
 fn stands_before(text: &str, count: usize, name: &str) -> bool
     ensures { result ≡ list_any (λ part. bytes_eq name.now (reading.name_of part)) (take count (parts_outside false text.now)) }
 {

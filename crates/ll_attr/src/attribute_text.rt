@@ -1,4 +1,5 @@
-//! The pieces of an attribute list's text.
+//! Cuts the text of an attribute list into its parts, names and values (section 4.2). Nothing here takes
+//! memory.
 ghost use Rattle.std.specs.Prelude.{◌≡◌, ◌<◌, ◌∷◌, [], true, false, MatchOption, IfSome, None, Some, length};
 ghost use Rattle.std.specs.List.{list_all, after_first};
 ghost use Rattle.ll_attr.specs.Attributes.{parts_outside, value_in, is_equals, is_quoted_byte};
@@ -9,7 +10,8 @@ ghost use Rattle.ll_attr.specs.Words.{pieces_at};
 
 use crate::parts::cut;
 
-/// The text before the first comma outside quotes, and what stands after that comma, where there is one.
+/// Returns the text before the first comma outside quotes, and what follows that comma, or `None` if there is
+/// no such comma.
 pub(crate) fn first_part(text: &str) -> (&str, Option<&str>)
     ensures parts { MatchOption result.1 (parts_outside false text.now ≡ result.0.now ∷ [])
         (λ after. parts_outside false text.now ≡ result.0.now ∷ parts_outside false after.now) }
@@ -19,7 +21,7 @@ pub(crate) fn first_part(text: &str) -> (&str, Option<&str>)
     (part, after.strip_prefix(','))
 }
 
-/// How many bytes stand before the first comma outside quotes.
+/// Returns the number of bytes before the first comma outside quotes.
 fn part_len(text: &str) -> usize
     ensures { result ≡ reading.part_len false text.now }
 {
@@ -35,7 +37,7 @@ fn part_len(text: &str) -> usize
     text.len()
 }
 
-/// What stands before the first equals sign of a part, or the whole part, where none stands in it.
+/// Returns what is before the first equals sign of `part`, or the whole part if it has none.
 pub(crate) fn name_of(part: &str) -> &str
     ensures { result.now ≡ reading.name_of part.now }
 {
@@ -45,7 +47,7 @@ pub(crate) fn name_of(part: &str) -> &str
     }
 }
 
-/// What stands after the first equals sign of a part, or nothing, where none stands in it.
+/// Returns what follows the first equals sign of `part`, or the empty text if it has none.
 pub(crate) fn value_of(part: &str) -> &str
     ensures { result.now ≡ after_first is_equals part.now }
 {
@@ -55,7 +57,8 @@ pub(crate) fn value_of(part: &str) -> &str
     }
 }
 
-/// The name in front of a part's first equals sign and what stands after it, where there is one.
+/// Returns the name before the first equals sign of `part` and what follows that sign, or `None` if there is
+/// no sign or no valid name.
 pub(crate) fn name_and_value(part: &str) -> Option<(&str, &str)>
     ensures { MatchOption result (is_named part.now ≡ false)
         (λ p. (is_named part.now ≡ true) × (p.0.now ≡ reading.name_of part.now) × (p.1.now ≡ after_first is_equals part.now)) }
@@ -69,21 +72,22 @@ pub(crate) fn name_and_value(part: &str) -> Option<(&str, &str)>
     Some((name, value))
 }
 
-/// Whether a text is an AttributeName.
+/// Returns whether `text` is an AttributeName.
 fn is_attribute_name(text: &str) -> bool
     ensures { result ≡ spec.is_attribute_name text.now }
 {
     !text.is_empty() && text.bytes().all(is_name_byte)
 }
 
-/// Whether a byte is A-Z, 0-9 or `-`.
+/// Returns whether `b` is A-Z, 0-9 or `-`.
 fn is_name_byte(b: u8) -> bool
     ensures { result ≡ spec.is_name_byte b }
 {
     b.is_ascii_uppercase() || b.is_ascii_digit() || b == b'-'
 }
 
-/// Whether a value is quoted, and its text without quotation marks.
+/// Returns whether the value that `text` spells is quoted, and its text without quotation marks, or `None` if
+/// it spells no value.
 pub(crate) fn value_text(text: &str) -> Option<(bool, &str)>
     ensures { MatchOption result (value_in text.now ≡ None) (λ v. value_in text.now ≡ Some (value_as v.0 v.1.now)) }
 {
@@ -93,14 +97,14 @@ pub(crate) fn value_text(text: &str) -> Option<(bool, &str)>
     Some((true, quoted_text(text)?))
 }
 
-/// Whether a text is a bare value.
+/// Returns whether `text` is a bare value.
 fn is_bare(text: &str) -> bool
     ensures { result ≡ spec.is_bare text.now }
 {
     !text.is_empty() && text.bytes().all(is_bare_byte)
 }
 
-/// What stands between two quotation marks, where a text is a quoted string.
+/// Returns what is between the quotation marks of `text`, if it is a quoted string.
 pub(crate) fn quoted_text(text: &str) -> Option<&str>
     ensures { MatchOption result (inner_of (pieces_at 34 text.now) ≡ None) (λ inner. inner_of (pieces_at 34 text.now) ≡ Some inner.now) }
 {
@@ -113,21 +117,21 @@ pub(crate) fn quoted_text(text: &str) -> Option<&str>
     }
 }
 
-/// Whether a text may stand in quotes.
+/// Returns whether `text` is allowed in quotes.
 fn is_quoted(text: &str) -> bool
     ensures { result ≡ list_all is_quoted_byte text.now }
 {
     text.bytes().all(is_quoted_byte)
 }
 
-/// Whether a byte may stand in quotes.
+/// Returns whether `b` is allowed in quotes.
 fn is_quoted_byte(b: u8) -> bool
     ensures { result ≡ spec.is_quoted_byte b }
 {
     b != b'"' && b != b'\r' && b != b'\n'
 }
 
-/// Whether a byte may stand in a bare value.
+/// Returns whether `b` is allowed in a bare value.
 fn is_bare_byte(b: u8) -> bool
     ensures { result ≡ spec.is_bare_byte b }
 {

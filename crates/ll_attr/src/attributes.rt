@@ -1,4 +1,4 @@
-//! Attribute lists.
+//! Attribute lists (section 4.2): their attributes and faults, how they are compared, searched, written and copied.
 ghost use Rattle.std.specs.Prelude.{◌≡◌, ◌≢◌, ◌++◌, ◌∷◌, [], IfOk, MatchOption, Ok, None, Some, string_bytes};
 ghost use Rattle.std.proofs.Common.{rules};
 ghost use Rattle.std.specs.Bool.{Decides};
@@ -13,7 +13,7 @@ use thiserror::Error;
 /// The value of an attribute (section 4.2).
 #[derive(Debug, Drop)]
 pub enum AttrValue {
-    /// What stands between quotation marks: any text without a quotation mark, CR or LF (quoted-string).
+    /// The text between quotation marks, without a quotation mark, CR or LF (quoted-string).
     Quoted(Text),
     /// One or more characters other than a quotation mark, a comma, a space, a tab, CR or LF.
     Bare(Text),
@@ -24,7 +24,7 @@ pub enum AttrValue {
 pub struct Attribute {
     /// One or more characters A-Z, 0-9 and `-`, compared byte by byte.
     pub name: Text,
-    /// What stands after the equals sign.
+    /// The value after the equals sign.
     pub value: AttrValue,
 }
 
@@ -56,20 +56,20 @@ impl PartialEq for Attribute {
     }
 }
 
-/// Why a text is no attribute list: its first fault from the left; within a pair its name, its standing twice, its value,
-/// in this order. Memory that isn't found comes after all of them.
+/// The first fault, from the left, of a text that is no attribute list. Within a pair, its name comes first, then that it
+/// is given twice, then its value; `Memory` comes after all of them.
 #[derive(Clone, Copy, Debug, PartialEq, Eq, Error)]
 pub enum AttrFault {
-    /// A name is empty, has a character outside A-Z, 0-9 and `-`, or no equals sign stands after it.
+    /// A name is empty, has a character outside A-Z, 0-9 and `-`, or has no equals sign after it.
     #[error("BadName")]
     BadName,
-    /// A value is no quoted string and no bare value.
+    /// A value is neither a quoted string nor bare.
     #[error("BadValue")]
     BadValue,
-    /// A name stands twice.
+    /// A name is given twice.
     #[error("Twice")]
     Twice,
-    /// No memory was found.
+    /// Out of memory.
     #[error("Memory")]
     Memory,
 }
@@ -84,8 +84,8 @@ impl From<AllocError> for AttrFault {
     }
 }
 
-/// An attribute list: names with their values, in the order in which they were written, none twice (section 4.2). A list
-/// of no attributes is a value too, though no text spells it.
+/// An attribute list: names with their values, in the order in which they were written, no name twice (section 4.2). The
+/// list without attributes is a value too, though no text spells it.
 #[derive(Debug, Drop)]
 pub struct AttrList {
     attributes: Vec<Attribute>,
@@ -111,7 +111,7 @@ impl PartialEq for AttrList {
 
     ghost laws = { lists_per (Prim.search (comparing, rules)) };
 
-    /// Whether the lists are equal: the same attributes in the same order, byte by byte.
+    /// Returns whether both lists have the same attributes in the same order, byte by byte.
     #[tactic(auto, using(crate::proofs::SameLemmas::list_decided))]
     fn eq(&self, other: &AttrList) -> bool
         ensures value { result ≡ same_attributes self.now other.now }
@@ -122,7 +122,7 @@ impl PartialEq for AttrList {
 }
 
 impl AttrList {
-    /// A list of attributes that are read from their spelling.
+    /// Makes a list of `attributes`, which must be what their spelling is read as.
     pub(crate) fn of(attributes: Vec<Attribute>) -> AttrList
         requires { attributes_in (spelling attributes.items) ≡ Ok attributes.items }
         ensures { result ≡ attributes.items }
@@ -130,14 +130,14 @@ impl AttrList {
         AttrList { attributes }
     }
 
-    /// The attributes, in the order in which they were written.
+    /// Returns the attributes, in the order in which they were written.
     pub fn attributes(&self) -> &[Attribute]
         ensures { result.now ≡ self.now }
     {
         self.attributes.as_slice()
     }
 
-    /// The first attribute and the list of the others, or nothing where the list has no attribute.
+    /// Returns the first attribute and the list of the others, or `None` if the list is empty.
     pub fn split_first(self) -> Option<(Attribute, AttrList)>
         ensures { MatchOption result (self ≡ []) (λ s. self ≡ s.0 ∷ s.1) }
     {
@@ -149,7 +149,7 @@ impl AttrList {
         Some((first, AttrList { attributes }))
     }
 
-    /// The value of the attribute of this name, where the list has one. Names are compared byte by byte.
+    /// Returns the value of the attribute named `name`, if the list has one. Names are compared byte by byte.
     pub fn get(&self, name: &str) -> Option<&AttrValue>
         ensures { MatchOption result (value_named name.now self.now ≡ None) (λ value. value_named name.now self.now ≡ Some value.now) }
     {
@@ -161,8 +161,7 @@ impl AttrList {
         None
     }
 
-    /// The list's text, which `parse` reads as this list again, unless it has no attribute; or an error where no memory was
-    /// found.
+    /// Writes the list as a text, which `parse` reads as this list again, unless it is empty.
     pub fn write(&self) -> Result<Text, AllocError>
         ensures value { IfOk result (λ text. text ≡ spelling self.now) }
         ensures read_again { IfOk result (λ text. self.now ≢ [] → attributes_in text ≡ Ok self.now) }
@@ -177,7 +176,7 @@ impl AttrList {
         Ok(Text::from_string(text))
     }
 
-    /// A list equal to this one, or an error where no memory was found.
+    /// Returns a deep copy of the list.
     pub fn copy(&self) -> Result<AttrList, AllocError>
         ensures { IfOk result (λ list. list ≡ self.now) }
     {
@@ -207,7 +206,7 @@ impl Attribute {
         }
     }
 
-    /// An attribute equal to this one, or an error where no memory was found.
+    /// Returns a deep copy of the attribute.
     fn copy(&self) -> Result<Attribute, AllocError>
         ensures { IfOk result (λ a. a ≡ self.now) }
     {

@@ -1,3 +1,4 @@
+//! Durations in microseconds, written and parsed as seconds (decimal-floating-point of section 4.2).
 ghost use Rattle.std.specs.Prelude.{◌≡◌, ◌-◌, ◌*◌, ◌^◌, IfOk, Some, None, if◌then◌else◌, length};
 ghost use Rattle.std.specs.Str.Parse.{digits_value};
 ghost use Rattle.ll_attr.specs.Durations.{seconds, micros_in, ReadsBack};
@@ -29,7 +30,7 @@ impl fmt::Display for Micros {
     }
 }
 
-/// A duration as a text of seconds with six decimals.
+/// Writes `micros`, in microseconds, as seconds with six decimals.
 pub fn micros_text(alloc: Global, micros: u64) -> Result<Text, AllocError>
     ensures { IfOk result (λ text. text ≡ seconds micros) }
 {
@@ -37,7 +38,7 @@ pub fn micros_text(alloc: Global, micros: u64) -> Result<Text, AllocError>
     Ok(Text::from_string(format!(in alloc; "{duration}")?))
 }
 
-/// The microseconds that a text of seconds means: 1 to 12 digits, then optionally a point and 1 to 6 digits.
+/// Parses seconds, 1 to 12 digits and optionally a point and 1 to 6 digits, as microseconds.
 #[tactic(auto, using(crate::proofs::ReadsBack::reads_back))]
 pub fn parse_micros(text: &str) -> Option<u64>
     ensures value { result ≡ micros_in text.now }
@@ -53,7 +54,7 @@ pub fn parse_micros(text: &str) -> Option<u64>
     }
 }
 
-/// The microseconds that 1 to 6 digits after a point mean.
+/// Parses the 1 to 6 digits after the point as microseconds.
 fn parse_fraction(text: &str) -> Option<u64>
     ensures { result
         ≡ (if is_digits 6 text.now then Some (digits_value 10 text.now * 10 ^ (6 - length text.now)) else None) }

@@ -1,9 +1,10 @@
+//! Numbers in decimal digits (decimal-integer of section 4.2).
 ghost use Rattle.std.specs.Prelude.{◌≡◌};
 ghost use Rattle.std.specs.Str.{all_ascii_digits};
 ghost use Rattle.ll_attr.specs.Numbers.{number_in};
 
-/// The number that a text of at most `most` decimal digits spells, where it is below 2^64. Zeros may stand in front;
-/// a sign, a space or an empty text is no number (decimal-integer of section 4.2 of draft-pantos-hls-rfc8216bis).
+/// Parses a number of 1 to `most` decimal digits that is below 2^64. Leading zeros are allowed, signs and spaces
+/// aren't (decimal-integer of section 4.2 of draft-pantos-hls-rfc8216bis).
 pub fn parse_number(text: &str, most: usize) -> Option<u64>
     ensures { result ≡ number_in most text.now }
 {
@@ -13,7 +14,7 @@ pub fn parse_number(text: &str, most: usize) -> Option<u64>
     text.parse::<u64>().ok()
 }
 
-/// Whether a text has only decimal digits, as the empty one.
+/// Returns whether `text` has only decimal digits; the empty text does.
 fn all_digits(text: &str) -> bool
     ensures { result ≡ all_ascii_digits text.now }
 {

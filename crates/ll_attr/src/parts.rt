@@ -1,8 +1,10 @@
+//! Cuts a text at a separator or after a key. Nothing here takes memory.
 ghost use Rattle.std.specs.Prelude.{◌≡◌, ◌<◌, ◌∷◌, [], IfSome, None, Some, MatchOption, length};
 ghost use Rattle.ll_attr.specs.Words.{pieces_at};
 ghost use Rattle.ll_attr.specs.Words as spec;
 
-/// What stands before the first separator and what stands after it, where there is one. The separator is ASCII.
+/// Returns what is before the first `separator`, an ASCII character, and what follows it, or `None` if `text`
+/// has none.
 pub fn cut(text: &str, separator: char) -> Option<(&str, &str)>
     requires { separator < 128 }
     ensures parts { MatchOption result (pieces_at separator text.now ≡ text.now ∷ [])
@@ -12,7 +14,7 @@ pub fn cut(text: &str, separator: char) -> Option<(&str, &str)>
     text.split_once(separator)
 }
 
-/// What stands after a key, where the text begins with it.
+/// Returns what follows `key`, if `text` begins with it.
 pub fn after<'a>(text: &'a str, key: &str) -> Option<&'a str>
     ensures { MatchOption result (spec.after key.now text.now ≡ None) (λ rest. spec.after key.now text.now ≡ Some rest.now) }
 {

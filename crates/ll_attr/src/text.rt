@@ -1,3 +1,4 @@
+//! Texts that own their bytes.
 ghost use Rattle.std.proofs.Common.{rules};
 ghost use Rattle.std.specs.Cmp.Rules.{comparing};
 ghost use Rattle.std.specs.Prelude.{◌≡◌, [], IfOk, Some, string_bytes};
@@ -21,7 +22,7 @@ impl Model for Text {
 }
 
 impl Text {
-    /// The empty text. It takes no memory.
+    /// Makes the empty text. It takes no memory.
     pub fn new(alloc: Global) -> Self
         ensures { result ≡ [] }
     {
@@ -30,7 +31,7 @@ impl Text {
         }
     }
 
-    /// A copy of a text.
+    /// Copies `text`.
     pub fn from_str(alloc: Global, text: &str) -> Result<Self, AllocError>
         ensures { IfOk result (λ t. t ≡ text.now) }
     {
@@ -39,21 +40,21 @@ impl Text {
         })
     }
 
-    /// The text that a string holds. It takes no memory.
+    /// Makes a text of `string`. It takes no more memory.
     pub fn from_string(string: String) -> Self
         ensures { result ≡ string_bytes string }
     {
         Text { string }
     }
 
-    /// The text, borrowed.
+    /// Returns the text, borrowed.
     pub fn as_str(&self) -> &str
         ensures { result.now ≡ self.now }
     {
         self.string.as_str()
     }
 
-    /// Another text of the same bytes.
+    /// Returns a copy of the text.
     pub fn copy(&self) -> Result<Self, AllocError>
         ensures { IfOk result (λ t. t ≡ self.now) }
     {

@@ -1,11 +1,11 @@
--- A book goes on to be one.
+-- Each step keeps the invariant of a book.
 use Rattle.std.proofs.Common.{◌≡◌, ℕ, suc, ◌<◌, ◌≤◌, ◌+◌, ◌==◌, List, [], ◌∷◌, ◌++◌, Bool, true, false, not, cond, Option, Some, None, filter, find, is_none, is_some, length, map, nat_lt, option_map, refl, ap, sym, ◌∙◌, subst, true≢false, arith}
 use Rattle.std.proofs.lemmas.List.{append-nil}
 use Rattle.std.proofs.lemmas.Option.{none-some}
 use Rattle.std.proofs.lemmas.List.Elements.{filter-append}
 use Rattle.ll_book.specs.Numbers.{AreRising, all_but, change_if, changed, has_number}
 use Rattle.ll_book.specs.Places.{Adds, IsOrder, Removes, stands}
-use Rattle.ll_book.specs.declared.place.Place.{Place}
+use Rattle.ll_book.specs.declared.place.OrderKey.{OrderKey}
 use Rattle.std.proofs.lemmas.Bool.Decides.{nat_tests}
 use Rattle.ll_book.proofs.Finds.{find_but, find_changed, find_filter, find_numbers, its_number, kept_if, none_up_to, rising_but, rising_filter, rising_map, rising_numbers, rising_pushed, same_rising}
 use Rattle.ll_book.proofs.Keyed.{itself, same}
@@ -111,9 +111,9 @@ found_above low e ss r w = by_order (nat_lt low e.ticket) refl
 
 -- ---- the steps
 
-module _ (slots : List Slot) (wants times : List Place) (ready : List ℕ) (memory : ℕ) (b : IsBook slots wants times ready memory) where
+module _ (slots : List Slot) (wants times : List OrderKey) (ready : List ℕ) (memory : ℕ) (b : IsBook slots wants times ready memory) where
   -- a request waits
-  pub book_pushed : (e : Entry) (new later : List Place) (told : List ℕ) (more : ℕ) → 0 < e.ticket → AreBelow e.ticket slots
+  pub book_pushed : (e : Entry) (new later : List OrderKey) (told : List ℕ) (more : ℕ) → 0 < e.ticket → AreBelow e.ticket slots
       → Adds (want_at (record { entry = e; settled = None })) wants new → Adds (time_at (record { entry = e; settled = None })) times later
       → told ≡ ready → length told + (length wants + 1) ≤ more → IsBook (slots ++ record { entry = e; settled = None } ∷ []) new later told more
   book_pushed e new later told more first newest added timed same_told room =
@@ -132,8 +132,8 @@ module _ (slots : List Slot) (wants times : List Place) (ready : List ℕ) (memo
       at_most true n m k more h le = omega (arith, h, le)
       at_most false n m k more h le = omega (arith, h, le)
 
-  -- it doesn't, for want of memory
-  pub book_undone : (e : Entry) (new back gone : List Place) (told : List ℕ) (more : ℕ) → AreBelow e.ticket slots
+  -- it doesn't, since memory is missing
+  pub book_undone : (e : Entry) (new back gone : List OrderKey) (told : List ℕ) (more : ℕ) → AreBelow e.ticket slots
       → Adds (want_at (record { entry = e; settled = None })) wants new → Removes (want_at (record { entry = e; settled = None })) new back
       → IsOrder ticket_in is_waiting time_at slots gone
       → told ≡ ready → memory ≤ more → IsBook slots back gone told more
@@ -148,13 +148,13 @@ module _ (slots : List Slot) (wants times : List Place) (ready : List ℕ) (memo
         memory = let m = b.memory in omega (arith, m, room, ap length same_told, wanted.count, b.wanted.count);
       }
 
-  pub times_undone : (e : Entry) (new back : List Place) → AreBelow e.ticket slots
+  pub times_undone : (e : Entry) (new back : List OrderKey) → AreBelow e.ticket slots
       → Adds (time_at (record { entry = e; settled = None })) times new → Removes (time_at (record { entry = e; settled = None })) new back → IsOrder ticket_in is_waiting time_at slots back
   times_undone e new back newest added left =
       order_undone ticket_in is_waiting time_at (λ z. refl) slots times new back (record { entry = e; settled = None }) b.timed (under e.ticket slots newest) added left
 
   -- a request gets its reply
-  pub book_given : (e : Entry) (x : Settled) (new later : List Place) (told : List ℕ) (more : ℕ) (ss : List Slot) → IsWaiting e slots
+  pub book_given : (e : Entry) (x : Settled) (new later : List OrderKey) (told : List ℕ) (more : ℕ) (ss : List Slot) → IsWaiting e slots
       → Removes (want_at (record { entry = e; settled = None })) wants new → Removes (time_at (record { entry = e; settled = None })) times later
       → ((n : ℕ) → find (has_number itself_of n) told ≡ cond (e.ticket == n) (Some e.ticket) (find (has_number itself_of n) ready)) → AreRising itself_of 0 told
       → length told ≤ length ready + 1 → memory ≤ more → ss ≡ changed ticket_in e.ticket (settle_with x) slots → IsBook ss new later told more
@@ -177,7 +177,7 @@ module _ (slots : List Slot) (wants times : List Place) (ready : List ℕ) (memo
       let there : stands wants (want_at s) ≡ true = in_place ticket_in is_waiting want_at (λ z. refl) slots wants s b.wanted w in
       let m = b.memory in omega (arith, m, taken_one wants (want_at s) there)
     where
-      taken_one : (ps : List Place) (p : Place) → stands ps p ≡ true → 0 < length ps
+      taken_one : (ps : List OrderKey) (p : OrderKey) → stands ps p ≡ true → 0 < length ps
       taken_one [] p h = absurd (true≢false (sym h))
       taken_one (q ∷ ps) p h = omega arith
 
@@ -200,7 +200,7 @@ module _ (slots : List Slot) (wants times : List Place) (ready : List ℕ) (memo
           }
 
   -- one leaves, whether it waits or not
-  pub book_left : (e : Entry) (s : Slot) (new later : List Place) (told : List ℕ) (more : ℕ) (ss : List Slot) → find (has_ticket e.ticket) slots ≡ Some s → s.entry ≡ e
+  pub book_left : (e : Entry) (s : Slot) (new later : List OrderKey) (told : List ℕ) (more : ℕ) (ss : List Slot) → find (has_ticket e.ticket) slots ≡ Some s → s.entry ≡ e
       → Removes (want_at (record { entry = e; settled = None })) wants new → Removes (time_at (record { entry = e; settled = None })) times later
       → told ≡ all_but itself_of e.ticket ready → memory ≤ more → ss ≡ without e.ticket slots → IsBook ss new later told more
   book_left e s new later told more ss f own gone past put room is =
@@ -219,7 +219,7 @@ module _ (slots : List Slot) (wants times : List Place) (ready : List ℕ) (memo
       at_most true n m k j memory more h e le u v = omega (arith, h, e, le, u, v)
       at_most false n m k j memory more h e le u v = omega (arith, h, e, le, u, v)
 
-  pub book_forgotten : (e : Entry) (new later : List Place) (told : List ℕ) (more : ℕ) (ss : List Slot) → found e.ticket slots ≡ Some e
+  pub book_forgotten : (e : Entry) (new later : List OrderKey) (told : List ℕ) (more : ℕ) (ss : List Slot) → found e.ticket slots ≡ Some e
       → Removes (want_at (record { entry = e; settled = None })) wants new → Removes (time_at (record { entry = e; settled = None })) times later
       → told ≡ all_but itself_of e.ticket ready → memory ≤ more → ss ≡ without e.ticket slots → IsBook ss new later told more
   book_forgotten e new later told more ss f gone past put room is =

@@ -30,7 +30,7 @@ pub over_fewer : (now : ℕ) (e : Entry) (ss : List Slot) → AreRising ticket_i
     → length (filter (is_over now) (changed ticket_in e.ticket (settle_with Timeout) ss)) + 1 ≡ length (filter (is_over now) ss)
 over_fewer now e ss r w h = one_fewer (is_over now) e Timeout ss r w (come now e.deadline h) refl
 
--- where nobody's time is over, all are what they come to
+-- once nobody's time is over, `ss` is what `old` becomes when its requests time out
 pub all_expired : (now : ℕ) (ss old : List Slot) → AreRising ticket_in 0 ss → AreRising ticket_in 0 old → filter (is_over now) ss ≡ []
     → ((t : ℕ) → option_map (expired now) (find (has_ticket t) ss) ≡ option_map (expired now) (find (has_ticket t) old)) → ss ≡ map (expired now) old
 all_expired now ss old r s none rest =

@@ -64,7 +64,7 @@ module _ {V : Type 0} (number : V → ℕ) where
   none_below n [] r = refl
   none_below n (v ∷ vs) r = ap (λ b. cond b (Some v) (find (has_number number n) vs)) (above n (number v) r.0) ∙ none_below n vs (lower number n (number v) vs r.0 r.1)
 
-  -- nor where all are above a number that isn't below it
+  -- nor if all are above a number that isn't below it
   pub none_up_to : (n low : ℕ) (vs : List V) → n ≤ low → AreRising number low vs → find (has_number number n) vs ≡ None
   none_up_to n low [] h r = refl
   none_up_to n low (v ∷ vs) h r =
@@ -96,7 +96,7 @@ module _ {V : Type 0} (number : V → ℕ) where
   -- ---- how many pass
 
   module _ (p : V → Bool) where
-    -- what is found, where it passes
+    -- what is found, if it passes
     abbrev pub kept_if : Option V → Option V
     kept_if None = None
     kept_if (Some v) = cond (p v) (Some v) None

@@ -1,4 +1,4 @@
--- The holders that were made, in the order of what is awaited, are those of the release, in order of their tickets.
+-- The replies made in the order of what is awaited are those of the release, in order of their tickets.
 use Rattle.std.proofs.Common.{◌≡◌, ℕ, ◌<◌, ◌≤◌, ◌==◌, ◌&&◌, List, [], ◌∷◌, Bool, true, false, not, cond, Option, Some, None, filter, find, length, map, option_map, refl, ap, sym, ◌∙◌, true≢false, arith, nat_cmp}
 use Rattle.std.proofs.lemmas.Bool.Decides.{nat_tests}
 use Rattle.std.proofs.lemmas.Cmp.{tied_itself, upto}
@@ -13,7 +13,7 @@ use Rattle.std.specs.declared.cmp.Ordering.{Ordering}
 use Rattle.std.specs.declared.cmp.Ordering.TheVariants.{Less, Equal, Greater}
 use Rattle.ll_book.specs.Numbers.{AreRising, has_number}
 use Rattle.ll_book.specs.Places.{place_cmp}
-use Rattle.ll_book.specs.declared.place.Place.{Place}
+use Rattle.ll_book.specs.declared.place.OrderKey.{OrderKey}
 use Rattle.ll_book.proofs.Finds.{count_le, count_less, find_filter, its_number, kept_if, rising_filter, same_rising}
 use Rattle.ll_book.proofs.Keyed.{is_number, itself, lower, same}
 use Rattle.ll_book.proofs.Orders.{place_exact, place_total}
@@ -28,7 +28,7 @@ use Rattle.ll_book.specs.declared.release.Release.{Release}
 use Rattle.ll_book.proofs.SlotLemmas.{both}
 use Rattle.ll_book.proofs.TakeLemmas.{after_start, covers_is, ticket_above}
 
--- ---- those that were held so far
+-- ---- the requests whose replies were made so far
 
 lt_is : (o : Ordering) → o ≡ Less → is_lt o ≡ true
 lt_is o h = ap is_lt h
@@ -38,13 +38,13 @@ is_less Less h = refl
 is_less Equal h = absurd (true≢false (sym h))
 is_less Greater h = absurd (true≢false (sym h))
 
-not_itself : (p : Place) → is_lt (place_cmp p p) ≡ false
+not_itself : (p : OrderKey) → is_lt (place_cmp p p) ≡ false
 not_itself p = ap is_lt (tied_itself place_total p)
 
-pub not_gt : (p : Place) → is_gt (place_cmp p p) ≡ false
+pub not_gt : (p : OrderKey) → is_gt (place_cmp p p) ≡ false
 not_gt p = ap is_gt (tied_itself place_total p)
 
-module _ (which : Release) (slots : List Slot) (after place : Place) (next : IsNextTaken which after place slots) where
+module _ (which : Release) (slots : List Slot) (after place : OrderKey) (next : IsNextTaken which after place slots) where
   -- who is taken after the next one is taken after the one before it
   wider : (s : Slot) → is_to_come which place s ≡ true → is_to_come which after s ≡ true
   wider s h =
@@ -67,7 +67,7 @@ module _ (which : Release) (slots : List Slot) (after place : Place) (next : IsN
       by_orders : (o p : Ordering) → place_cmp after (want_at s) ≡ o → place_cmp place (want_at s) ≡ p → takes which s ≡ true → is_lt o ≡ is_lt p
       by_orders Less Less h k t = refl
       by_orders Less Equal h k t =
-          absurd (true≢false (sym (itself place.number) ∙ ap (λ (p : Place). p.number == place.number) (place_exact place (want_at s) k) ∙ apart))
+          absurd (true≢false (sym (itself place.number) ∙ ap (λ (p : OrderKey). p.number == place.number) (place_exact place (want_at s) k) ∙ apart))
       by_orders Less Greater h k t = absurd (true≢false (sym (ap is_gt k) ∙ next.first s f t h))
       by_orders Equal Less h k t = absurd (true≢false (sym (lt_is _ (place_total.trans after place (want_at s) next.later k)) ∙ ap is_lt h))
       by_orders Equal Equal h k t = refl
@@ -119,11 +119,11 @@ none_held which supply slots r t = ap (λ b. reply_if b (holder_at supply slots 
             sym (ap not (lt_is _ (after_start which (want_at s) (covers_is which s.entry ∙ (both (is_waiting s) (frees which s.entry.wanted) h).1) (ticket_above s slots r here))))
         by_take false h = refl
 
-pub first_to_come : (which : Release) (after : Place) (slots : List Slot) → length (filter (is_to_come which after) slots) ≤ length (filter (takes which) slots)
+pub first_to_come : (which : Release) (after : OrderKey) (slots : List Slot) → length (filter (is_to_come which after) slots) ≤ length (filter (takes which) slots)
 first_to_come which after slots = count_le ticket_in (takes which) (is_to_come which after) (λ s h. (both (takes which s) (is_lt (place_cmp after (want_at s))) h).0) slots
 
 -- after the last
-all_held : (which : Release) (after : Place) (slots : List Slot) → NoneTaken which after slots → (t : ℕ) → is_passed (is_held which after) (find (has_ticket t) slots) ≡ is_passed (takes which) (find (has_ticket t) slots)
+all_held : (which : Release) (after : OrderKey) (slots : List Slot) → NoneTaken which after slots → (t : ℕ) → is_passed (is_held which after) (find (has_ticket t) slots) ≡ is_passed (takes which) (find (has_ticket t) slots)
 all_held which after slots none t = by_slot (find (has_ticket t) slots) refl
   where
     by_slot : (o : Option Slot) → o ≡ find (has_ticket t) slots → is_passed (is_held which after) o ≡ is_passed (takes which) o
@@ -135,7 +135,7 @@ all_held which after slots none t = by_slot (find (has_ticket t) slots) refl
         by_tests true false h k = refl
         by_tests false c h k = refl
 
--- ---- holders in order of their tickets
+-- ---- replies in order of their tickets
 
 abbrev key : ℕ × Settled → ℕ
 key h = h.0
@@ -162,7 +162,7 @@ holder_found supply t (s ∷ ss) = ap (λ b. cond b (Some (given_in supply s.ent
     by_key true k = refl
     by_key false k = k
 
--- the page of a ticket among those of a release
+-- the reply of a ticket among those of a release
 release_holds : (supply : Supply) (which : Release) (t : ℕ) (ss : List Slot) → AreRising ticket_in 0 ss → reply_under (holders_of supply which ss) t ≡ reply_if (is_passed (takes which) (find (has_ticket t) ss)) (holder_at supply ss t)
 release_holds supply which t ss r =
     holder_found supply t (filter (takes which) ss) ∙ ap (option_map (λ (s : Slot). given_in supply s.entry.wanted)) (find_filter ticket_in (takes which) t 0 ss r) ∙ by_slot (find (has_ticket t) ss)
@@ -183,7 +183,7 @@ sorted_rising : (low : ℕ) (hs : List (ℕ × Settled)) → AllByRecursion (λ 
 sorted_rising low [] a s = tt
 sorted_rising low (h ∷ hs) a s = (above_key low h.0 a.0, sorted_rising h.0 hs (sorted_head nat_cmp h.0 (keys_of hs) s) (sorted_tail nat_cmp h.0 (keys_of hs) s))
 
--- keys that ascend rise from 0 where nothing stands under it
+-- keys that ascend rise from 0 if 0 isn't one of them
 rising_entries : (hs : List (ℕ × Settled)) → IsStrictlySortedBy nat_cmp (keys_of hs) → reply_under hs 0 ≡ None → AreRising key 0 hs
 rising_entries [] s none = tt
 rising_entries (h ∷ hs) s none = (by_key (h.0 == 0) refl, sorted_rising h.0 hs (sorted_head nat_cmp h.0 (keys_of hs) s) (sorted_tail nat_cmp h.0 (keys_of hs) s))
@@ -192,7 +192,7 @@ rising_entries (h ∷ hs) s none = (by_key (h.0 == 0) refl, sorted_rising h.0 hs
     by_key true k = absurd (none-some h.1 (sym none ∙ ap (λ b. cond b (Some h.1) (reply_under hs 0)) (is_number 0 h.0 ∙ k)))
     by_key false k = grind (arith, nat_tests, k)
 
-pub holders_are : (supply : Supply) (which : Release) (after : Place) (slots : List Slot) (hs : List (ℕ × Settled)) → AreRising ticket_in 0 slots → IsStrictlySortedBy nat_cmp (keys_of hs) → NoneTaken which after slots
+pub holders_are : (supply : Supply) (which : Release) (after : OrderKey) (slots : List Slot) (hs : List (ℕ × Settled)) → AreRising ticket_in 0 slots → IsStrictlySortedBy nat_cmp (keys_of hs) → NoneTaken which after slots
     → ((t : ℕ) → reply_under hs t ≡ reply_if (is_passed (is_held which after) (find (has_ticket t) slots)) (holder_at supply slots t)) → hs ≡ holders_of supply which slots
 holders_are supply which after slots hs r sorted none met =
     let alike : (t : ℕ) → reply_under hs t ≡ reply_under (holders_of supply which slots) t =

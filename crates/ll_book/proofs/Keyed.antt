@@ -30,7 +30,7 @@ module _ {V : Type 0} (number : V → ℕ) where
   lower low high [] h r = tt
   lower low high (v ∷ vs) h r = (omega (arith, h, r.0), r.1)
 
-  -- none is left out where all are above
+  -- none is left out if all are above
   pub all_above : (n : ℕ) (vs : List V) → AreRising number n vs → all_but number n vs ≡ vs
   all_above n [] r = refl
   all_above n (v ∷ vs) r = kept (number v == n) v (all_but number n vs) vs (above n (number v) r.0) (all_above n vs (lower n (number v) vs r.0 r.1))
@@ -113,7 +113,7 @@ module _ {V : Type 0} (number : V → ℕ) where
   not_here true v o h = absurd (none-some v (sym h))
   not_here false v o h = (refl, h)
 
-  -- none leaves where none is found
+  -- none leaves if none is found
   pub none_but : (n : ℕ) (vs : List V) → find (has_number number n) vs ≡ None → all_but number n vs ≡ vs
   none_but n [] h = refl
   none_but n (v ∷ vs) h =
@@ -127,7 +127,7 @@ module _ {V : Type 0} (number : V → ℕ) where
         let rest = not_here (has_number number n v) v (find (has_number number n) vs) h in
         ap (λ b. change_if b f v ∷ changed number n f vs) rest.0 ∙ ap (λ zs. v ∷ zs) (none_changed n vs rest.1)
 
-    -- none changes where all are above
+    -- none changes if all are above
     pub above_changed : (n : ℕ) (vs : List V) → AreRising number n vs → changed number n f vs ≡ vs
     above_changed n [] r = refl
     above_changed n (v ∷ vs) r =
@@ -173,7 +173,7 @@ module _ {V : Type 0} (number : V → ℕ) where
       either n es new (Some v) e h some none =
           (subst (AreKeyed number 0) (sym (some v e)) (keyed_set n 0 v es h e), ap values_of (some v e) ∙ set_under n 0 v es h e)
 
-      -- the element under a key changes, where there is one
+      -- the element under a key changes, if there is one
       pub keyed_changed : (n : ℕ) (es new : List (ℕ × V)) → AreKeyed number 0 es
           → ((v : V) → lookup (is_at (nat_cmp n)) es ≡ Some v → new ≡ set_value (is_at (nat_cmp n)) es (f v))
           → (lookup (is_at (nat_cmp n)) es ≡ None → new ≡ es)

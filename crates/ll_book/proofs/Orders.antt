@@ -1,4 +1,4 @@
--- An order of elements goes on to be one.
+-- Each change of the elements and their places keeps an order.
 use Rattle.std.proofs.Common.{◌≡◌, ℕ, ◌+◌, ◌==◌, ◌&&◌, List, [], ◌∷◌, ◌++◌, Bool, true, false, cond, Option, Some, None, filter, find, length, option_map, refl, ap, sym, ◌∙◌, true≢false, arith}
 use Rattle.std.proofs.lemmas.Bool.Decides.{nat_tests}
 use Rattle.std.proofs.lemmas.Cmp.{nat_cmp_total, on_total, then_total}
@@ -9,15 +9,15 @@ use Rattle.std.specs.declared.cmp.Ordering.{Ordering}
 use Rattle.std.specs.declared.cmp.Ordering.TheVariants.{Less, Equal, Greater}
 use Rattle.ll_book.specs.Numbers.{AreRising, AreUnder, all_but, change_if, changed, has_number}
 use Rattle.ll_book.specs.Places.{Adds, IsOrder, Removes, is_place, place_cmp, stands, stands_at}
-use Rattle.ll_book.specs.declared.place.Place.{Place}
+use Rattle.ll_book.specs.declared.place.OrderKey.{OrderKey}
 use Rattle.ll_book.proofs.Keyed.{itself, same}
 use Rattle.ll_book.proofs.Finds.{count_but, count_changed, count_pushed, find_but, find_changed, find_pushed, its_number, none_above}
 
 -- ---- places
 
 pub place_total : IsTotalOrder place_cmp
-place_total = then_total (on_total (λ (p : Place). p.group) nat_cmp_total) (then_total (on_total (λ (p : Place). p.kind) nat_cmp_total)
-    (then_total (on_total (λ (p : Place). p.rank) nat_cmp_total) (then_total (on_total (λ (p : Place). p.subrank) nat_cmp_total) (on_total (λ (p : Place). p.number) nat_cmp_total))))
+place_total = then_total (on_total (λ (p : OrderKey). p.group) nat_cmp_total) (then_total (on_total (λ (p : OrderKey). p.kind) nat_cmp_total)
+    (then_total (on_total (λ (p : OrderKey). p.rank) nat_cmp_total) (then_total (on_total (λ (p : OrderKey). p.subrank) nat_cmp_total) (on_total (λ (p : OrderKey). p.number) nat_cmp_total))))
 
 pub place_exact : CmpEqualImpliesEq place_cmp
 place_exact a b h =
@@ -30,18 +30,18 @@ equal_from Less h = absurd (true≢false (sym h))
 equal_from Equal h = refl
 equal_from Greater h = absurd (true≢false (sym h))
 
-pub this_place : (p q : Place) → is_place p q ≡ true → p ≡ q
+pub this_place : (p q : OrderKey) → is_place p q ≡ true → p ≡ q
 this_place p q h = place_exact p q (equal_from (place_cmp p q) h)
 
-pub own_place : (p : Place) → is_place p p ≡ true
+pub own_place : (p : OrderKey) → is_place p p ≡ true
 own_place p = ap is_eq (tied_itself place_total p)
 
-elsewhere_by : (p q : Place) (b : Bool) → is_place p q ≡ b → (q.number == p.number) ≡ false → b ≡ false
-elsewhere_by p q true h f = absurd (true≢false (sym (itself p.number) ∙ ap (λ (z : Place). z.number == p.number) (this_place p q h) ∙ f))
+elsewhere_by : (p q : OrderKey) (b : Bool) → is_place p q ≡ b → (q.number == p.number) ≡ false → b ≡ false
+elsewhere_by p q true h f = absurd (true≢false (sym (itself p.number) ∙ ap (λ (z : OrderKey). z.number == p.number) (this_place p q h) ∙ f))
 elsewhere_by p q false h f = refl
 
 -- a place of another number
-elsewhere : (p q : Place) → (q.number == p.number) ≡ false → is_place p q ≡ false
+elsewhere : (p q : OrderKey) → (q.number == p.number) ≡ false → is_place p q ≡ false
 elsewhere p q f = elsewhere_by p q (is_place p q) refl f
 
 pub flip : (a b : ℕ) → (a == b) ≡ (b == a)
@@ -60,24 +60,24 @@ split : {X : Type 0} (b : Bool) → (b ≡ true → X) → (b ≡ false → X) �
 split true f g = f refl
 split false f g = g refl
 
-module _ {V : Type 0} (number : V → ℕ) (is_in : V → Bool) (place : V → Place) (own : (v : V) → (place v).number ≡ number v) where
+module _ {V : Type 0} (number : V → ℕ) (is_in : V → Bool) (place : V → OrderKey) (own : (v : V) → (place v).number ≡ number v) where
   abbrev found : ℕ → List V → Option V
   found n vs = find (has_number number n) vs
 
   -- a place of an element's number
-  at_own : (vs : List V) (places : List Place) (v : V) (q : Place) (o : Option V) → IsOrder number is_in place vs places → found (number v) vs ≡ o
+  at_own : (vs : List V) (places : List OrderKey) (v : V) (q : OrderKey) (o : Option V) → IsOrder number is_in place vs places → found (number v) vs ≡ o
       → (q.number == number v) ≡ true → stands places q ≡ stands_at number is_in place q o
   at_own vs places v q o order f h = order.told q ∙ ap (stands_at number is_in place q) (ap (λ n. found n vs) (same q.number (number v) h) ∙ f)
 
-  other_place : (v : V) (q : Place) → (q.number == number v) ≡ false → is_place (place v) q ≡ false
+  other_place : (v : V) (q : OrderKey) → (q.number == number v) ≡ false → is_place (place v) q ≡ false
   other_place v q h = elsewhere (place v) q (ap (λ n. q.number == n) (own v) ∙ h)
 
   -- whether an element's own place is taken
-  pub its_place : (vs : List V) (places : List Place) (v : V) (o : Option V) → IsOrder number is_in place vs places → found (number v) vs ≡ o
+  pub its_place : (vs : List V) (places : List OrderKey) (v : V) (o : Option V) → IsOrder number is_in place vs places → found (number v) vs ≡ o
       → stands places (place v) ≡ stands_at number is_in place (place v) o
   its_place vs places v o order f = at_own vs places v (place v) o order f (ap (λ n. n == number v) (own v) ∙ itself (number v))
 
-  pub in_place : (vs : List V) (places : List Place) (v : V) → IsOrder number is_in place vs places → found (number v) vs ≡ Some v → stands places (place v) ≡ is_in v
+  pub in_place : (vs : List V) (places : List OrderKey) (v : V) → IsOrder number is_in place vs places → found (number v) vs ≡ Some v → stands places (place v) ≡ is_in v
   in_place vs places v order f = its_place vs places v (Some v) order f ∙ ap (λ b. is_in v && b) (own_place (place v)) ∙ both (is_in v)
     where
       both : (b : Bool) → (b && true) ≡ b
@@ -85,10 +85,10 @@ module _ {V : Type 0} (number : V → ℕ) (is_in : V → Bool) (place : V → P
       both false = refl
 
   -- a place that no element has
-  free_place : (vs : List V) (places : List Place) (v : V) → IsOrder number is_in place vs places → AreUnder number (number v) vs → stands places (place v) ≡ false
+  free_place : (vs : List V) (places : List OrderKey) (v : V) → IsOrder number is_in place vs places → AreUnder number (number v) vs → stands places (place v) ≡ false
   free_place vs places v order b = its_place vs places v None order (none_above number (number v) vs b)
 
-  module _ (vs : List V) (old new : List Place) (v : V) (order : IsOrder number is_in place vs old) where
+  module _ (vs : List V) (old new : List OrderKey) (v : V) (order : IsOrder number is_in place vs old) where
     -- one more stands in it
     pub order_pushed : AreUnder number (number v) vs → is_in v ≡ true → Adds (place v) old new → IsOrder number is_in place (vs ++ v ∷ []) new
     order_pushed b inside added = record {
@@ -144,7 +144,7 @@ module _ {V : Type 0} (number : V → ℕ) (is_in : V → Bool) (place : V → P
     }
 
   -- what was added and left again changes nothing
-  pub order_undone : (vs : List V) (old new back : List Place) (v : V) → IsOrder number is_in place vs old → AreUnder number (number v) vs → Adds (place v) old new → Removes (place v) new back
+  pub order_undone : (vs : List V) (old new back : List OrderKey) (v : V) → IsOrder number is_in place vs old → AreUnder number (number v) vs → Adds (place v) old new → Removes (place v) new back
       → IsOrder number is_in place vs back
   order_undone vs old new back v order b added gone =
       let free = free_place vs old v order b in record {
@@ -155,12 +155,12 @@ module _ {V : Type 0} (number : V → ℕ) (is_in : V → Bool) (place : V → P
             omega (arith, one, back_one, order.count);
       }
     where
-      undone : (q : Place) (c : Bool) → is_place (place v) q ≡ c → stands old (place v) ≡ false → cond c false (cond c true (stands old q)) ≡ stands old q
+      undone : (q : OrderKey) (c : Bool) → is_place (place v) q ≡ c → stands old (place v) ≡ false → cond c false (cond c true (stands old q)) ≡ stands old q
       undone q true h free = sym (ap (stands old) (sym (this_place (place v) q h)) ∙ free)
       undone q false h free = refl
 
   -- one leaves that doesn't stand in it
-  pub order_stays : (vs : List V) (places : List Place) (v : V) → IsOrder number is_in place vs places → AreRising number 0 vs → found (number v) vs ≡ Some v → is_in v ≡ false
+  pub order_stays : (vs : List V) (places : List OrderKey) (v : V) → IsOrder number is_in place vs places → AreRising number 0 vs → found (number v) vs ≡ Some v → is_in v ≡ false
       → IsOrder number is_in place (all_but number (number v) vs) places
   order_stays vs places v order r there out = record {
     told = λ q. split (q.number == number v)
@@ -174,15 +174,15 @@ module _ {V : Type 0} (number : V → ℕ) (is_in : V → Bool) (place : V → P
         omega (arith, none, order.count);
   }
 
-  -- ---- what a place that is taken tells
+  -- ---- what follows from a place that is taken
 
-  pub record IsOf (p : Place) (vs : List V) : Type 0 where
+  pub record IsOf (p : OrderKey) (vs : List V) : Type 0 where
     pub element : V
     pub there : found p.number vs ≡ Some element
     pub inside : is_in element ≡ true
     pub at : place element ≡ p
 
-  of_by : (p : Place) (vs : List V) (o : Option V) → o ≡ found p.number vs → stands_at number is_in place p o ≡ true → IsOf p vs
+  of_by : (p : OrderKey) (vs : List V) (o : Option V) → o ≡ found p.number vs → stands_at number is_in place p o ≡ true → IsOf p vs
   of_by p vs None e h = absurd (true≢false (sym h))
   of_by p vs (Some v) e h =
       let both = parts (is_in v) (is_place (place v) p) h in
@@ -193,5 +193,5 @@ module _ {V : Type 0} (number : V → ℕ) (is_in : V → Bool) (place : V → P
       parts false b h = absurd (true≢false (sym h))
 
   -- the element whose place it is
-  pub of_place : (p : Place) (vs : List V) (places : List Place) → IsOrder number is_in place vs places → stands places p ≡ true → IsOf p vs
+  pub of_place : (p : OrderKey) (vs : List V) (places : List OrderKey) → IsOrder number is_in place vs places → stands places p ≡ true → IsOf p vs
   of_place p vs places order h = of_by p vs (found p.number vs) refl (sym (order.told p) ∙ h)

@@ -27,7 +27,7 @@ replied_by false replies s = s
 abbrev pub replied : Release → List (ℕ × Settled) → Slot → Slot
 replied which replies s = replied_by (takes which s) replies s
 
--- each request that a release takes has a page
+-- each request that a release takes has a reply
 abbrev pub HasReplies : Release → List (ℕ × Settled) → List Slot → Type 0
 HasReplies which replies slots = (e : Entry) → IsWaiting e slots → frees which e.wanted ≡ true → is_some (reply_under replies e.ticket) ≡ true
 
@@ -42,7 +42,7 @@ replied_ticket which replies s = by_take (takes which s)
     by_take true = by_page (reply_under replies s.entry.ticket)
     by_take false = refl
 
--- ---- one more has its page
+-- ---- one more has its reply
 
 pub reply_given : (which : Release) (e : Entry) (reply : Settled) (old new : List (ℕ × Settled)) (ss : List Slot) → IsWaiting e ss → frees which e.wanted ≡ true
     → Some reply ≡ reply_under old e.ticket → ((q : ℕ) → reply_under new q ≡ cond (is_at (nat_cmp e.ticket) q) None (reply_under old q))
@@ -134,7 +134,7 @@ there_by which e s ss hs false true h k freed w those ih =
     absurd (true≢false (sym freed ∙ sym (ap (takes which) same) ∙ k))
 there_by which e s ss hs false false h k freed w those ih = ih hs those w
 
--- each request that a release takes has its page
+-- each request that a release takes has its reply
 pub have_replies : (which : Release) (hs : List (ℕ × Settled)) (ss : List Slot) → AreThose which hs ss → HasReplies which hs ss
 have_replies which hs [] those e w freed = absurd (cc)
 have_replies which hs (s ∷ ss) those e w freed =

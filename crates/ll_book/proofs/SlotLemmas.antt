@@ -1,4 +1,4 @@
--- Requests that are found by their tickets, and those of them whose replies are there.
+-- Requests that are found by their tickets, and those of them that have their reply.
 use Rattle.std.proofs.Common.{◌≡◌, ℕ, ◌+◌, ◌==◌, ◌&&◌, List, [], ◌∷◌, Bool, true, false, not, cond, Option, Some, None, filter, find, is_none, is_some, length, map, option_and_then, option_map, refl, ap, sym, ◌∙◌, true≢false, arith}
 use Rattle.std.proofs.lemmas.Option.{none-some}
 use Rattle.std.specs.List.{slice_get}
@@ -40,7 +40,7 @@ its_entry (Some r) s b f h = by_reply b (ap (λ z. is_some z.settled) (sym is) �
     by_reply true k = ap (λ (z : Slot). Some z.entry) is ∙ sym (ap (λ c. option_map entry_in (cond c (Some r) None)) k)
     by_reply false k = sym (ap (λ c. option_map entry_in (cond c (Some r) None)) k)
 
--- the entry of a request that is found, where its reply is there
+-- the entry of a request that is found, if its reply is there
 pub entry_ready : (t : ℕ) (s : Slot) (ss : List Slot) (b : Bool) → AreRising ticket_in 0 ss → Some s ≡ find (has_ticket t) ss → is_some s.settled ≡ b
     → cond b (Some s.entry) None ≡ option_map entry_in (find (is_ready_at t) ss)
 entry_ready t s ss b r f h = its_entry (find (has_ticket t) ss) s b f h ∙ sym (ap (option_map entry_in) (ready_found t ss r))
@@ -90,7 +90,7 @@ nothing : (o : Option Slot) → None ≡ option_map entry_in o → o ≡ None
 nothing None h = refl
 nothing (Some s) h = absurd (none-some s.entry h)
 
--- nobody is taken where no reply is there
+-- nobody is taken if no reply is there
 pub none_ready : (t : ℕ) (ss : List Slot) → None ≡ option_map entry_in (find (is_ready_at t) ss) → ss ≡ without_ready t ss
 none_ready t ss h = sym (unready t ss (ap (option_and_then settled_in) (nothing (find (is_ready_at t) ss) h)))
 

@@ -1,4 +1,4 @@
--- Who stands first in an order is who is taken first.
+-- The request that stands first in an order is the one that is taken first.
 use Rattle.std.proofs.Common.{◌≡◌, ℕ, ◌<◌, ◌≤◌, ◌+◌, ◌==◌, ◌&&◌, ◌||◌, List, [], ◌∷◌, Bool, true, false, cond, Option, Some, None, IfNone, IfSome, filter, find, is_some, length, nat_le, nat_lt, option_map, refl, ap, sym, ◌∙◌, subst, true≢false, arith}
 use Rattle.std.proofs.lemmas.Bool.Decides.{nat_tests}
 use Rattle.std.proofs.lemmas.Cmp.{upto}
@@ -10,7 +10,7 @@ use Rattle.ll_directive.specs.declared.want.Awaited.{Awaited}
 use Rattle.ll_directive.specs.declared.want.Awaited.TheVariants as awaited
 use Rattle.ll_book.specs.Numbers.{AreRising, change_if, changed}
 use Rattle.ll_book.specs.Places.{IsBefore, IsNext, IsOrder, place_cmp, stands}
-use Rattle.ll_book.specs.declared.place.Place.{Place}
+use Rattle.ll_book.specs.declared.place.OrderKey.{OrderKey}
 use Rattle.ll_book.proofs.Finds.{count_changed, find_changed, find_filter, its_number, kept_if, none_up_to, rising_filter, same_rising}
 use Rattle.ll_book.proofs.Orders.{in_place, of_place, place_total}
 use Rattle.ll_verdict.specs.State.{is_waiting}
@@ -49,7 +49,7 @@ pub covers_is : (which : Release) (e : Entry) → covers which (want_of e) ≡ f
 covers_is which e = covers_by which e.wanted e.wanted.awaited e.ticket refl
 
 -- a covered place stands after the start
-pub after_start : (which : Release) (p : Place) → covers which p ≡ true → 0 < p.number → IsBefore (start which) p
+pub after_start : (which : Release) (p : OrderKey) → covers which p ≡ true → 0 < p.number → IsBefore (start which) p
 after_start (Part r m k) p h l = grind (arith, nat_tests, h, l)
 after_start (Segment r m) p h l = grind (arith, nat_tests, h, l)
 after_start (All r) p h l = grind (arith, nat_tests, h, l)
@@ -69,7 +69,7 @@ by_number n i n2 i2 m p false e le index c =
     let less : n < n2 = grind (arith, nat_tests, e, le) in
     grind (arith, nat_tests, less, c)
 
-part_before : (r m k : ℕ) (p q : Place) → is_gt (place_cmp (start (Part r m k)) p) ≡ false → is_gt (place_cmp p q) ≡ false → covers (Part r m k) q ≡ true → covers (Part r m k) p ≡ true
+part_before : (r m k : ℕ) (p q : OrderKey) → is_gt (place_cmp (start (Part r m k)) p) ≡ false → is_gt (place_cmp p q) ≡ false → covers (Part r m k) q ≡ true → covers (Part r m k) p ≡ true
 part_before r m k p q s h c =
     let at = both (q.group == r) (q.kind == 0 && (nat_lt q.rank m || (q.rank == m && nat_le q.subrank k))) c in
     let part = both (q.kind == 0) (nat_lt q.rank m || (q.rank == m && nat_le q.subrank k)) at.1 in
@@ -87,20 +87,20 @@ part_before r m k p q s h c =
     ∙ by_number p.rank p.subrank q.rank q.subrank m k (p.rank == q.rank) refl (first_le p.rank q.rank _ ranks) (λ e. first_le p.subrank q.subrank _ (past_equal p.rank q.rank _ ranks e)) part.1
 
 -- what stands between the start and a covered place is covered
-covered_before : (which : Release) (p q : Place) → is_gt (place_cmp (start which) p) ≡ false → is_gt (place_cmp p q) ≡ false → covers which q ≡ true → covers which p ≡ true
+covered_before : (which : Release) (p q : OrderKey) → is_gt (place_cmp (start which) p) ≡ false → is_gt (place_cmp p q) ≡ false → covers which q ≡ true → covers which p ≡ true
 covered_before (Part r m k) p q s h c = part_before r m k p q s h c
 covered_before (Segment r m) p q s h c = grind (arith, nat_tests, s, h, c)
 covered_before (All r) p q s h c = grind (arith, nat_tests, s, h, c)
 
 -- ---- the next that is taken
 
-module _ (slots : List Slot) (wants : List Place) (which : Release) (wanted : IsOrder ticket_in is_waiting want_at slots wants) where
+module _ (slots : List Slot) (wants : List OrderKey) (which : Release) (wanted : IsOrder ticket_in is_waiting want_at slots wants) where
   its_place : (s : Slot) → find (has_ticket s.entry.ticket) slots ≡ Some s → takes which s ≡ true → (stands wants (want_at s) ≡ true) × (covers which (want_at s) ≡ true)
   its_place s f t =
       let parts = both (is_waiting s) (frees which s.entry.wanted) t in
       (in_place ticket_in is_waiting want_at (λ z. refl) slots wants s wanted f ∙ parts.0, covers_is which s.entry ∙ parts.1)
 
-  pub next_taken : (after place : Place) → IsNext after place wants → covers which place ≡ true → IsNextTaken which after place slots
+  pub next_taken : (after place : OrderKey) → IsNext after place wants → covers which place ≡ true → IsNextTaken which after place slots
   next_taken after place next covered =
       let of = of_place ticket_in is_waiting want_at (λ z. refl) place slots wants wanted next.there in
       record {
@@ -112,10 +112,10 @@ module _ (slots : List Slot) (wants : List Place) (which : Release) (wanted : Is
         first = λ s f t b. next.first (want_at s) b (its_place s f t).0;
       }
 
-  pub nothing_after : (after : Place) → ((p : Place) → IsBefore after p → stands wants p ≡ false) → NoneTaken which after slots
+  pub nothing_after : (after : OrderKey) → ((p : OrderKey) → IsBefore after p → stands wants p ≡ false) → NoneTaken which after slots
   nothing_after after none s f t b = true≢false (sym (its_place s f t).0 ∙ none (want_at s) b)
 
-  pub uncovered_after : (after place : Place) → is_gt (place_cmp (start which) after) ≡ false → IsNext after place wants → covers which place ≡ false → NoneTaken which after slots
+  pub uncovered_after : (after place : OrderKey) → is_gt (place_cmp (start which) after) ≡ false → IsNext after place wants → covers which place ≡ false → NoneTaken which after slots
   uncovered_after after place from next un s f t b =
       let its = its_place s f t in
       true≢false (sym (covered_before which place (want_at s) (upto place_total (start which) after place from (ap is_gt next.after)) (next.first (want_at s) b its.0) its.1) ∙ un)
@@ -187,8 +187,8 @@ rank_le a b t u h = grind (arith, nat_tests, h)
 time_after : (d t : ℕ) → 0 < t → IsBefore (record { group = 0; kind = 0; rank = 0; subrank = 0; number = 0 }) (record { group = 0; kind = 0; rank = d; subrank = 0; number = t })
 time_after d t h = grind (arith, nat_tests, h)
 
-module _ (slots : List Slot) (times : List Place) (now : ℕ) (rising : AreRising ticket_in 0 slots) (timed : IsOrder ticket_in is_waiting time_at slots times) where
-  abbrev origin : Place
+module _ (slots : List Slot) (times : List OrderKey) (now : ℕ) (rising : AreRising ticket_in 0 slots) (timed : IsOrder ticket_in is_waiting time_at slots times) where
+  abbrev origin : OrderKey
   origin = record { group = 0; kind = 0; rank = 0; subrank = 0; number = 0 }
 
   its_time : (s : Slot) → find (has_ticket s.entry.ticket) slots ≡ Some s → is_over now s ≡ true → (stands times (time_at s) ≡ true) × (s.entry.deadline ≤ now) × IsBefore origin (time_at s)
@@ -199,30 +199,30 @@ module _ (slots : List Slot) (times : List Place) (now : ℕ) (rising : AreRisin
         time_after s.entry.deadline s.entry.ticket (ticket_above s slots rising f),
       )
 
-  pub nothing_over : ((p : Place) → IsBefore origin p → stands times p ≡ false) → filter (is_over now) slots ≡ []
+  pub nothing_over : ((p : OrderKey) → IsBefore origin p → stands times p ≡ false) → filter (is_over now) slots ≡ []
   nothing_over none = none_pass (is_over now) slots rising (λ s f h. let its = its_time s f h in true≢false (sym its.0 ∙ none (time_at s) its.2))
 
-  pub none_over : (place : Place) → IsNext origin place times → now < place.rank → filter (is_over now) slots ≡ []
+  pub none_over : (place : OrderKey) → IsNext origin place times → now < place.rank → filter (is_over now) slots ≡ []
   none_over place next late =
       let of = of_place ticket_in is_waiting time_at (λ z. refl) place slots times timed next.there in
       none_pass (is_over now) slots rising (λ s f h.
       let its = its_time s f h in
       let first = subst (λ p. is_gt (place_cmp p (time_at s)) ≡ false) (sym of.at) (next.first (time_at s) its.2 its.0) in
       let le = rank_le of.element.entry.deadline s.entry.deadline of.element.entry.ticket s.entry.ticket first in
-      omega (arith, late, le, its.1, ap (λ (p : Place). p.rank) of.at))
+      omega (arith, late, le, its.1, ap (λ (p : OrderKey). p.rank) of.at))
 
-  pub over_waits : (place : Place) (e : Entry) → IsNext origin place times → place.rank ≤ now → Some e ≡ found place.number slots → IsWaiting e slots × (e.deadline ≤ now)
+  pub over_waits : (place : OrderKey) (e : Entry) → IsNext origin place times → place.rank ≤ now → Some e ≡ found place.number slots → IsWaiting e slots × (e.deadline ≤ now)
   over_waits place e next come h =
       let of = of_place ticket_in is_waiting time_at (λ z. refl) place slots times timed next.there in
       let its = slot_of place.number e slots h in
       let same_slot : its.0 ≡ of.element = cc in (
         ap (λ n. find (has_ticket n) slots) its.3 ∙ its.1 ∙ ap Some (waits its.0 (ap is_waiting same_slot ∙ of.inside) ∙ ap (λ d. record { entry = d; settled = None }) its.2),
-        subst (λ n. n ≤ now) (sym (ap (λ (d : Entry). d.deadline) (sym its.2) ∙ ap (λ (s : Slot). s.entry.deadline) same_slot ∙ ap (λ (p : Place). p.rank) of.at)) come,
+        subst (λ n. n ≤ now) (sym (ap (λ (d : Entry). d.deadline) (sym its.2) ∙ ap (λ (s : Slot). s.entry.deadline) same_slot ∙ ap (λ (p : OrderKey). p.rank) of.at)) come,
       )
 
 -- ---- one after another
 
--- what is found under each ticket comes to the same, once one more has its reply
+-- the result for each ticket is the same, once one more request has its reply
 pub step : (f g : Slot → Slot) (e : Entry) (x : Settled) (ss : List Slot) → IsWaiting e ss → f (record { entry = e; settled = Some x }) ≡ g (record { entry = e; settled = None })
     → ((s : Slot) → (s.entry.ticket == e.ticket) ≡ false → f s ≡ g s)
     → (t : ℕ) → option_map f (find (has_ticket t) (changed ticket_in e.ticket (settle_with x) ss)) ≡ option_map g (find (has_ticket t) ss)

@@ -1,4 +1,4 @@
--- Which releases an item brings, where this was kept of its rendition before it; and a release, where there is one.
+-- The releases of an item, by what is kept of its rendition before it; and releases that there may be none of.
 use Rattle.std.specs.Prelude.{◌≡◌, ℕ, List, [], ◌∷◌, Bool, true, false, Option, Some, None, length}
 use Rattle.std.specs.List.{list_any}
 use Rattle.ll_item.specs.declared.item.Item.{Item}
@@ -40,7 +40,7 @@ second_release k (item.End rendition) = None
 second_release k (item.Range rendition id attributes) = None
 second_release k (item.Unrange rendition id) = None
 
--- the part that an item is, where this was kept before it
+-- the part that an item is, if it is one, by what is kept before it
 abbrev pub part_of : Compact → Item → Option NextPart
 part_of k (item.Part part) = Some (record { number = k.next_number; index = length k.open_parts; media = part.media })
 part_of k (item.Finish rendition) = None
@@ -50,24 +50,24 @@ part_of k (item.End rendition) = None
 part_of k (item.Range rendition id attributes) = None
 part_of k (item.Unrange rendition id) = None
 
--- whether a release, where there is one, takes any of these
+-- whether there is a release and it takes any of `slots`
 abbrev pub takes_any : Option Release → List Slot → Bool
 takes_any None slots = false
 takes_any (Some which) slots = list_any (takes which) slots
 
--- the holders of a release, where there is one
+-- the replies made for a release are those of the requests that it takes; there are none without a release
 abbrev pub HasHolders : Supply → Option Release → List Slot → Option HoldersValue → Type 0
 HasHolders supply None slots found = found ≡ None
 HasHolders supply (Some which) slots None = ⊥
 HasHolders supply (Some which) slots (Some held) = held.holders ≡ holders_of supply which slots
 
--- the holders are those of just the requests that a release takes
+-- there is one reply for each request that a release takes, if there is a release
 abbrev pub HasThose : Option Release → Option HoldersValue → List Slot → Type 0
 HasThose None found slots = Unit
 HasThose (Some which) None slots = ⊥
 HasThose (Some which) (Some held) slots = AreThose which held.holders slots
 
--- the open requests after a release with these holders
+-- the open requests after a release with its replies, if there is a release
 abbrev pub released_with : Option Release → Option HoldersValue → List Slot → List Slot
 released_with None found slots = slots
 released_with (Some which) None slots = slots

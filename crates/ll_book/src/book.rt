@@ -1,3 +1,4 @@
+//! The open requests of one channel: they are held, settled by a release or by time, and taken out.
 ghost use Rattle.std.specs.Prelude.{◌≡◌, ◌≤◌, ◌<◌, ◌+◌, ◌^◌, ◌++◌, ◌∷◌, ℕ, [], None, Some, false, true, cond, IfNone, IfOk, IfSome, IsErrOf, OnErr, OnOk, filter, find, is_some, length, map, nat_le, option_map};
 ghost use Rattle.std.specs.BTreeMap.{is_at};
 ghost use Rattle.std.specs.List.{list_any};
@@ -14,26 +15,26 @@ ghost use Rattle.ll_verdict.specs.Waiting.{AreBelow, IsRising, entry_in, found, 
 use crate::holders::{Holders, given};
 use crate::next_part::NextPart;
 use crate::order::Order;
-use crate::place::Place;
+use crate::place::OrderKey;
 use crate::places::{FIRST, covers, start, time_of, want_of};
 use crate::ready::Ready;
 use crate::release::Release;
 use crate::slots::Slots;
+use ll_page_cache::Pages;
 use ll_verdict::{Entry, Settled, Slot};
-use ll_written::Pages;
 use std::alloc::{AllocError, Global};
 use std::collections::BTreeMap;
 use std::marker::Model;
 
-/// The most requests of a channel that wait at one time.
+/// The number of requests of a channel that can wait at one time.
 const WAITING_LIMIT: usize = 65_536;
 
 /// Why a request can't be held.
 #[derive(Clone, Copy, PartialEq, Eq)]
 pub enum ParkFault {
-    /// As many wait as may wait.
+    /// As many requests of the channel wait as are allowed.
     Busy,
-    /// No memory was found.
+    /// Out of memory.
     Memory,
 }
 
@@ -48,18 +49,17 @@ impl From<AllocError> for ParkFault {
     }
 }
 
-/// What a change of the waiting requests came to.
+/// The effect of a change of the waiting requests.
 #[derive(Clone, Copy)]
 pub struct Released {
-    /// How many requests it released.
+    /// The number of requests that it released.
     pub released: usize,
-    /// How many open requests it looked at.
+    /// The number of open requests that it looked at.
     pub looked: usize,
 }
 
-/// The open requests of a channel, in order of their tickets: each waits, or its reply does. Those that wait stand beside in two orders,
-/// of what they await and of their time, so that a release
-/// or a reading of the clock looks at no more of them than it settles, and one.
+/// The open requests of a channel, in order of their tickets: each waits, or has its reply. Those that wait also stand in two orders, by what they
+/// await and by their deadlines, so that a release or a reading of the clock looks at one more request than it settles, at most.
 #[derive(Drop)]
 pub struct Book {
     slots: Slots,
@@ -81,7 +81,7 @@ impl Model for Book {
 }
 
 impl Book {
-    /// No open requests.
+    /// Returns a book without requests.
     pub fn new(alloc: Global) -> Book
         ensures { result ≡ [] }
     {
@@ -93,7 +93,8 @@ impl Book {
         }
     }
 
-    /// Holds a request, whose ticket is above all earlier ones. It makes the place for its reply.
+    /// Adds a request that waits, and the place for its reply. Its ticket is above all earlier ones. Fails with `Busy` if 65,536 requests wait, and
+    /// with `Memory`.
     pub fn park(&mut self, entry: Entry) -> Result<(), ParkFault>
         requires first { 0 < entry.ticket }
         requires newest { AreBelow entry.ticket self.old }
@@ -111,7 +112,7 @@ impl Book {
         }
     }
 
-    /// Adds a request that waits.
+    /// Adds a request that waits, however many do.
     fn hold(&mut self, entry: Entry) -> Result<(), AllocError>
         requires first { 0 < entry.ticket }
         requires newest { AreBelow entry.ticket self.old }
@@ -136,7 +137,7 @@ impl Book {
         Ok(())
     }
 
-    /// How many requests are open. Their tickets rise.
+    /// Returns how many requests are open. Their tickets rise.
     pub fn len(&self) -> usize
         ensures value { result ≡ length self.now }
         ensures rising { IsRising 0 self.now }
@@ -144,15 +145,16 @@ impl Book {
         self.slots.len()
     }
 
-    /// Whether as many wait as may wait.
+    /// Returns whether 65,536 requests wait.
     pub fn is_busy(&self) -> bool
         ensures { result ≡ nat_le waiting_limit (waiting_in self.now) }
     {
+        // Serves the proof alone.
         let _ = &self.slots;
         self.wants.len() >= WAITING_LIMIT
     }
 
-    /// The open request of this ticket.
+    /// Returns the open request `ticket`.
     pub fn find(&self, ticket: u64) -> Option<Entry>
         ensures { result ≡ found ticket self.now }
     {
@@ -160,7 +162,7 @@ impl Book {
         Some(slot.entry)
     }
 
-    /// The open request of this ticket, where its reply is there.
+    /// Returns the open request `ticket` if its reply is there, else `None`.
     pub fn find_ready(&self, ticket: u64) -> Option<Entry>
         ensures { result ≡ option_map entry_in (find (is_ready_at ticket) self.now) }
     {
@@ -170,26 +172,27 @@ impl Book {
         }
     }
 
-    /// How many requests' replies are there.
+    /// Returns how many open requests have their reply.
     pub fn ready(&self) -> usize
         ensures { result ≡ length (filter is_ready self.now) }
     {
         self.ready.len()
     }
 
-    /// The least ticket whose reply is there.
+    /// Returns the smallest ticket of an open request that has its reply.
     pub fn first_ready(&self) -> Option<u64>
         ensures { result ≡ first_ready self.now }
     {
         self.ready.first()
     }
 
-    /// Hands out the reply of this ticket, where it is there, and the request is no longer open.
+    /// Hands out the reply to request `ticket`, which is then no longer open. Returns `None` and changes nothing if no reply to it is there.
     pub fn take(&mut self, ticket: u64) -> Option<Settled>
         ensures reply { result ≡ reply_at ticket self.old }
         ensures left { self.new ≡ without_ready ticket self.old }
         ensures alone { is_some result ≡ true → self.new ≡ without ticket self.old }
     {
+        // Serves the proof alone.
         let _ = &self.slots;
         match self.find_ready(ticket) {
             Some(_) => self.leave(ticket),
@@ -197,7 +200,7 @@ impl Book {
         }
     }
 
-    /// Takes out the request of this ticket, whose reply is there.
+    /// Takes out request `ticket`, whose reply is there, and returns that.
     fn leave(&mut self, ticket: u64) -> Option<Settled>
         requires { is_passed is_ready (find (has_ticket ticket) self.old) ≡ true }
         ensures reply { result ≡ reply_at ticket self.old }
@@ -208,7 +211,7 @@ impl Book {
         settled
     }
 
-    /// Whether a release would take any request.
+    /// Returns whether the release `which` would take any request.
     pub fn takes_any(&self, which: Release) -> bool
         ensures { result ≡ list_any (takes which) self.now }
     {
@@ -216,26 +219,28 @@ impl Book {
         self.first_taken(which, &mut looked).is_some()
     }
 
-    /// The first request, in the order of what is awaited, that a release takes. It looks at one.
+    /// Returns the first request that `which` takes, in the order of what is awaited. Adds 1 to `looked`.
     fn first_taken(&self, which: Release, looked: &mut usize) -> Option<Entry>
         requires { looked.old < 2 ^ 63 }
         ensures some { IfSome result (λ e. IsWaiting e self.now × (frees which e.wanted ≡ true)) }
         ensures none { IfNone result (filter (takes which) self.now ≡ []) }
         ensures looked { looked.new ≡ looked.old + 1 }
     {
+        // Serves the proof alone.
         let _ = &self.slots;
         let place = self.next_taken(which, start(which), looked)?;
         self.find(place.number)
     }
 
-    /// The place of the next request after another place, in the order of what is awaited, that a release takes. It looks at one.
-    fn next_taken(&self, which: Release, after: Place, looked: &mut usize) -> Option<Place>
+    /// Returns the place of the first request after the place `after` that `which` takes, in the order of what is awaited. Adds 1 to `looked`.
+    fn next_taken(&self, which: Release, after: OrderKey, looked: &mut usize) -> Option<OrderKey>
         requires few { looked.old < 2 ^ 63 }
         requires started { is_gt (place_cmp (spec.start which) after) ≡ false }
         ensures some { IfSome result (λ place. IsNextTaken which after place self.now) }
         ensures none { IfNone result (NoneTaken which after self.now) }
         ensures looked { looked.new ≡ looked.old + 1 }
     {
+        // Serves the proof alone.
         let _ = &self.slots;
         let place = self.wants.first_after(after, looked)?;
         if !covers(which, place) {
@@ -244,8 +249,8 @@ impl Book {
         Some(place)
     }
 
-    /// What each request gets that a release will take, in order of their tickets: of these pages of its rendition, and of the bytes of the part that
-    /// comes, where one comes.
+    /// Makes the reply for each request that the release `which` will take, in order of their tickets: from `pages`, those of its rendition, and from
+    /// `part`, the part that comes, if one does.
     pub fn holders(
         &self,
         alloc: Global,
@@ -260,11 +265,13 @@ impl Book {
         let mut holders = BTreeMap::new(alloc);
         let mut looked = 0;
         let mut after = start(which);
+        // Serves the proof alone.
         self.slots.len();
         while let Some(place) = self.next_taken(which, after, &mut looked) {
             self.add_holder(alloc, place.number, pages, part, &mut holders)?;
             after = place;
         }
+        // Serves the proof alone.
         holders.len();
         Ok(Holders {
             replies: holders,
@@ -272,7 +279,7 @@ impl Book {
         })
     }
 
-    /// Adds what the request of this ticket gets.
+    /// Adds the reply for request `ticket` to `holders`.
     fn add_holder(
         &self,
         alloc: Global,
@@ -294,8 +301,8 @@ impl Book {
         Ok(())
     }
 
-    /// Releases the requests of a rendition that await this part or an earlier one; the holders are those that `holders` made for
-    /// just these.
+    /// Releases the requests of `rendition` that await part `part` of segment `msn`, or an earlier one. [`Book::holders`] made `holders` for this
+    /// release.
     pub fn release_part(
         &mut self,
         rendition: usize,
@@ -311,7 +318,8 @@ impl Book {
         self.release(Release::Part(rendition, msn, part), holders)
     }
 
-    /// Releases the requests of a rendition that await this segment, which is finished, or an earlier one.
+    /// Releases the requests of `rendition` that await segment `msn`, which is finished, or an earlier one. [`Book::holders`] made `holders` for this
+    /// release.
     pub fn release_segment(&mut self, rendition: usize, msn: u64, holders: Holders) -> Released
         requires those { AreThose (Release.Segment rendition msn) holders.holders self.old }
         ensures slots { self.new ≡ released (Release.Segment rendition msn) holders.holders self.old }
@@ -321,7 +329,7 @@ impl Book {
         self.release(Release::Segment(rendition, msn), holders)
     }
 
-    /// Releases all requests of a rendition, which has ended.
+    /// Releases all requests of `rendition`, which has ended. [`Book::holders`] made `holders` for this release.
     pub fn release_all(&mut self, rendition: usize, holders: Holders) -> Released
         requires those { AreThose (Release.All rendition) holders.holders self.old }
         ensures slots { self.new ≡ released (Release.All rendition) holders.holders self.old }
@@ -331,7 +339,7 @@ impl Book {
         self.release(Release::All(rendition), holders)
     }
 
-    /// Gives each request that a release takes its reply of these.
+    /// Gives each request that `which` takes its reply from `holders`.
     fn release(&mut self, which: Release, holders: Holders) -> Released
         requires those { AreThose which holders.holders self.old }
         ensures slots { self.new ≡ released which holders.holders self.old }
@@ -342,6 +350,7 @@ impl Book {
             mut replies,
             looked: _,
         } = holders;
+        // Serves the proof alone.
         self.slots.len();
         let (mut count, mut looked) = (0, 0);
         while let Some(entry) = self.first_taken(which, &mut looked) {
@@ -357,12 +366,13 @@ impl Book {
         }
     }
 
-    /// Gives up each request whose time is over.
+    /// Settles each waiting request whose deadline is at most `now`, in milliseconds, with a timeout.
     pub fn expire(&mut self, now: u64) -> Released
         ensures slots { self.new ≡ map (expired now) self.old }
         ensures count { result.released ≡ length (filter (is_over now) self.old) }
         ensures looked { result.looked ≤ result.released + 1 }
     {
+        // Serves the proof alone.
         self.slots.len();
         let (mut count, mut looked) = (0, 0);
         while let Some(entry) = self.first_over(now, &mut looked) {
@@ -375,13 +385,14 @@ impl Book {
         }
     }
 
-    /// The first request in order whose time is over. It looks at one.
+    /// Returns the waiting request with the earliest deadline, if that is at most `now`. Adds 1 to `looked`.
     fn first_over(&self, now: u64, looked: &mut usize) -> Option<Entry>
         requires { looked.old < 2 ^ 63 }
         ensures some { IfSome result (λ e. IsWaiting e self.now × (e.deadline ≤ now)) }
         ensures none { IfNone result (filter (is_over now) self.now ≡ []) }
         ensures looked { looked.new ≡ looked.old + 1 }
     {
+        // Serves the proof alone.
         let _ = &self.slots;
         let place = self.times.first_after(FIRST, looked)?;
         if now < place.rank {
@@ -390,7 +401,7 @@ impl Book {
         self.find(place.number)
     }
 
-    /// Gives a request that waits its reply. It takes no memory.
+    /// Gives a waiting request its reply. It takes no memory.
     fn settle(&mut self, entry: Entry, settled: Settled)
         requires { IsWaiting entry self.old }
         ensures { self.new ≡ changed ticket_in entry.ticket (settle_with settled) self.old }
@@ -401,12 +412,13 @@ impl Book {
         self.slots.settle(entry.ticket, settled);
     }
 
-    /// Forgets the open request of this `ticket`, if there is one. It is found by its ticket, so no other is looked at.
+    /// Removes the open request `ticket`, if there is one. It is found by its ticket, so no other is looked at.
     pub fn drop_ticket(&mut self, ticket: u64) -> Released
         ensures slots { self.new ≡ without ticket self.old }
         ensures count { result.released ≡ length (filter (has_ticket ticket) self.old) }
         ensures looked { result.looked ≡ 0 }
     {
+        // Serves the proof alone.
         let _ = &self.slots;
         match self.find(ticket) {
             Some(entry) => {
@@ -423,7 +435,7 @@ impl Book {
         }
     }
 
-    /// Forgets an open request.
+    /// Removes an open request.
     fn forget(&mut self, entry: Entry)
         requires { found entry.ticket self.old ≡ Some entry }
         ensures { self.new ≡ without entry.ticket self.old }

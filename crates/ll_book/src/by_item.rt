@@ -1,4 +1,4 @@
-//! Which requests an item releases, and their release.
+//! The releases that an item makes, and how they are carried out.
 ghost use Rattle.std.specs.Prelude.{◌≡◌, IfOk};
 ghost use Rattle.ll_book.specs.Releases as spec;
 
@@ -7,11 +7,12 @@ use crate::holders::Holders;
 use crate::next_part::NextPart;
 use crate::release::Release;
 use ll_item::Item;
+use ll_page_cache::Pages;
 use ll_window::Window;
-use ll_written::Pages;
 use std::alloc::{AllocError, Global};
 
-/// A part releases those that await it or an earlier one, a finish those that await its segment or an earlier one, the end all of its rendition.
+/// Returns the first release of `item`: a part releases the requests that await it or an earlier one, a finish those that await its segment or an
+/// earlier one, and the end all of its rendition. `window` is that of the rendition before the item.
 pub fn first_release(window: &Window, item: &Item) -> Option<Release>
     ensures { result ≡ spec.first_release window.now item.now }
 {
@@ -29,7 +30,7 @@ pub fn first_release(window: &Window, item: &Item) -> Option<Release>
     }
 }
 
-/// A finishing part also releases those that await its segment or an earlier one.
+/// Returns the second release of `item`: a finishing part also releases the requests that await its segment or an earlier one.
 pub fn second_release(window: &Window, item: &Item) -> Option<Release>
     ensures { result ≡ spec.second_release window.now item.now }
 {
@@ -41,7 +42,7 @@ pub fn second_release(window: &Window, item: &Item) -> Option<Release>
     }
 }
 
-/// The part that an item is, with another holder of its bytes; none of another item.
+/// Returns the part that `item` is, with another handle of its bytes, or `None` for any other item.
 pub fn part_of(window: &Window, item: &Item) -> Result<Option<NextPart>, AllocError>
     ensures { IfOk result (λ part. part ≡ spec.part_of window.now item.now) }
 {
@@ -55,7 +56,7 @@ pub fn part_of(window: &Window, item: &Item) -> Result<Option<NextPart>, AllocEr
     }
 }
 
-/// The holders of a release, where there is one.
+/// Makes the replies of the release `which`, if there is one.
 pub fn holders_for(
     book: &Book,
     alloc: Global,
@@ -72,7 +73,7 @@ pub fn holders_for(
     }
 }
 
-/// Releases the requests that a release takes, where there is one; the holders were made for just these.
+/// Carries out the release `which`, if there is one. [`holders_for`] made `holders` for it.
 pub fn release_with(book: &mut Book, which: Option<Release>, holders: Option<Holders>)
     requires those { spec.HasThose which holders book.old }
     ensures { book.new ≡ spec.released_with which holders book.old }
@@ -87,7 +88,7 @@ pub fn release_with(book: &mut Book, which: Option<Release>, holders: Option<Hol
     };
 }
 
-/// Whether a release, where there is one, takes any request.
+/// Returns whether there is a release `which` and it would take any request.
 pub fn takes_any(book: &Book, which: Option<Release>) -> bool
     ensures { result ≡ spec.takes_any which book.now }
 {

@@ -1,5 +1,5 @@
-//! Who waits for what, and until when: the open requests of one channel, as a list in order of their tickets; and orders of what has a number,
-//! in which the first after any place is found in logarithmic time. Sections are those of draft-pantos-hls-rfc8216bis.
+//! Which request waits for what, and until when: the open requests of one channel, in order of their tickets; and orders of numbered elements, in
+//! which the first after any place is found in logarithmic time. Sections are those of draft-pantos-hls-rfc8216bis.
 #![tactic(auto)]
 
 mod book;
@@ -20,5 +20,5 @@ pub use holders::Holders;
 pub use laws::release_law;
 pub use next_part::NextPart;
 pub use order::Order;
-pub use place::Place;
+pub use place::OrderKey;
 pub use release::Release;

@@ -1,11 +1,12 @@
+//! A part that an item adds to its rendition.
 use ll_item::Media;
 
-/// A part that comes: where it stands, and its bytes.
+/// A part that comes: its place and its bytes.
 #[derive(Drop)]
 pub struct NextPart {
-    /// The media sequence number of its segment.
+    /// The Media Sequence Number of its segment.
     pub number: u64,
-    /// Its index in the segment.
+    /// Its Part Index.
     pub index: u64,
     /// Its bytes.
     pub media: Media,

@@ -1,29 +1,30 @@
+//! A set of places, read in order.
 ghost use Rattle.std.specs.Prelude.{◌≡◌, ◌<◌, ◌+◌, ◌^◌, [], false, IfNone, IfSome, OnErr, OnOk, length};
 ghost use Rattle.ll_book.specs.Places.{Adds, IsBefore, IsNext, Removes, stands};
-ghost use Rattle.ll_book.specs.declared.place.Place.{Place};
+ghost use Rattle.ll_book.specs.declared.place.OrderKey.{OrderKey};
 
-use crate::place::Place;
+use crate::place::OrderKey;
 use std::alloc::{AllocError, Global};
 use std::collections::{BTreeSet, Bound};
 use std::marker::Model;
 
-/// Places in order.
+/// A set of places, in order.
 #[derive(Drop)]
 pub struct Order {
-    places: BTreeSet<Place>,
+    places: BTreeSet<OrderKey>,
 }
 
 impl Model for Order {
     ghost use Rattle.std.specs.Prelude.{List};
-    ghost use Rattle.ll_book.specs.declared.place.Place.{Place};
+    ghost use Rattle.ll_book.specs.declared.place.OrderKey.{OrderKey};
 
-    ghost Value = { List Place };
+    ghost Value = { List OrderKey };
 
     ghost view = { λ o. o.places.keys };
 }
 
 impl Order {
-    /// No places.
+    /// Returns an order without places.
     pub fn new(alloc: Global) -> Order
         ensures { result ≡ [] }
     {
@@ -32,7 +33,7 @@ impl Order {
         }
     }
 
-    /// How many places are taken.
+    /// Returns how many places are in the order.
     pub fn len(&self) -> usize
         ensures value { result ≡ length self.now }
         ensures few { result < 2 ^ 63 }
@@ -40,8 +41,8 @@ impl Order {
         self.places.len()
     }
 
-    /// Takes a place.
-    pub fn add(&mut self, place: Place) -> Result<(), AllocError>
+    /// Adds `place`, unless it is there.
+    pub fn add(&mut self, place: OrderKey) -> Result<(), AllocError>
         ensures added { OnOk result (Adds place self.old self.new) }
         ensures unchanged { OnErr result (self.new ≡ self.old) }
     {
@@ -49,18 +50,19 @@ impl Order {
         Ok(())
     }
 
-    /// Gives a place up, where it is taken.
-    pub fn remove(&mut self, place: Place)
+    /// Removes `place`, if it is there.
+    pub fn remove(&mut self, place: OrderKey)
         ensures { Removes place self.old self.new }
     {
         self.places.remove(&place);
     }
 
-    /// The first place after this one that is taken. This is the only way to read an order, and it counts itself: it looks at one place.
-    pub fn first_after(&self, place: Place, looked: &mut usize) -> Option<Place>
+    /// Returns the first place after `place` that is in the order, and adds 1 to `looked`. There is no other way to read an order, so `looked` counts
+    /// every place that is looked at.
+    pub fn first_after(&self, place: OrderKey, looked: &mut usize) -> Option<OrderKey>
         requires { looked.old < 2 ^ 63 }
         ensures some { IfSome result (λ next. IsNext place next self.now) }
-        ensures none { IfNone result ((p : Place) → IsBefore place p → stands self.now p ≡ false) }
+        ensures none { IfNone result ((p : OrderKey) → IsBefore place p → stands self.now p ≡ false) }
         ensures looked { looked.new ≡ looked.old + 1 }
     {
         *looked += 1;

@@ -1,14 +1,14 @@
-//! Where requests stand in the orders of a book.
+//! The places of requests in the two orders of a book.
 ghost use Rattle.std.specs.Prelude.{◌≡◌};
 ghost use Rattle.ll_book.specs.Orders as spec;
 
-use crate::place::Place;
+use crate::place::OrderKey;
 use crate::release::Release;
 use ll_directive::Awaited;
 use ll_verdict::Entry;
 
-/// A place before all others.
-pub(crate) const FIRST: Place = Place {
+/// The place before all others.
+pub(crate) const FIRST: OrderKey = OrderKey {
     group: 0,
     kind: 0,
     rank: 0,
@@ -16,9 +16,9 @@ pub(crate) const FIRST: Place = Place {
     number: 0,
 };
 
-/// Where a request stands in the order of what is awaited: by its rendition, by whether it awaits a part, a segment or nothing, by the numbers
-/// of what it awaits, by its ticket.
-pub(crate) fn want_of(entry: &Entry) -> Place
+/// Returns the place of a request in the order of what is awaited: by its rendition, by whether it awaits a part, a segment or nothing, by the
+/// numbers of what it awaits, and by its ticket.
+pub(crate) fn want_of(entry: &Entry) -> OrderKey
     ensures { result ≡ spec.want_of entry.now }
 {
     let (kind, rank, subrank) = match entry.wanted.awaited {
@@ -26,7 +26,7 @@ pub(crate) fn want_of(entry: &Entry) -> Place
         Awaited::Segment(msn) => (1, msn, 0),
         Awaited::Nothing => (2, 0, 0),
     };
-    Place {
+    OrderKey {
         group: entry.wanted.rendition as u64,
         kind,
         rank,
@@ -35,19 +35,19 @@ pub(crate) fn want_of(entry: &Entry) -> Place
     }
 }
 
-/// Where a request stands in the order of time: by its deadline, by its ticket.
-pub(crate) fn time_of(entry: &Entry) -> Place
+/// Returns the place of a request in the order of time: by its deadline, then by its ticket.
+pub(crate) fn time_of(entry: &Entry) -> OrderKey
     ensures { result ≡ spec.time_of entry.now }
 {
-    Place {
+    OrderKey {
         rank: entry.deadline,
         number: entry.ticket,
         ..FIRST
     }
 }
 
-/// A place before all that a release covers, and after all others that are before one of these.
-pub(crate) fn start(which: Release) -> Place
+/// Returns a place before all that the release `which` covers, and after all others that are before one of these.
+pub(crate) fn start(which: Release) -> OrderKey
     ensures { result ≡ spec.start which }
 {
     let (rendition, kind) = match which {
@@ -55,15 +55,15 @@ pub(crate) fn start(which: Release) -> Place
         Release::Segment(rendition, _) => (rendition, 1),
         Release::All(rendition) => (rendition, 0),
     };
-    Place {
+    OrderKey {
         group: rendition as u64,
         kind,
         ..FIRST
     }
 }
 
-/// Whether a release takes who stands at this place.
-pub(crate) fn covers(which: Release, place: Place) -> bool
+/// Returns whether the release `which` takes a waiting request whose place in the order of what is awaited is `place`.
+pub(crate) fn covers(which: Release, place: OrderKey) -> bool
     ensures { result ≡ spec.covers which place }
 {
     match which {

@@ -1,4 +1,4 @@
-//! Whose reply is there.
+//! The open requests that have their reply.
 ghost use Rattle.std.specs.Prelude.{◌≡◌, ◌≤◌, ◌<◌, ◌+◌, ◌==◌, ℕ, [], Some, cond, OnOk, find, length, slice_get};
 ghost use Rattle.ll_book.specs.Numbers.{AreRising, all_but, has_number};
 
@@ -6,7 +6,7 @@ use std::alloc::{AllocError, Global};
 use std::collections::VecDeque;
 use std::marker::Model;
 
-/// The tickets of the requests whose replies are there, in order. A ticket is added in memory that was found before.
+/// The tickets of the requests that have their reply, in order. A ticket is added in memory that was reserved before.
 #[derive(Drop)]
 pub(crate) struct Ready {
     tickets: VecDeque<u64>,
@@ -25,7 +25,7 @@ impl Model for Ready {
 }
 
 impl Ready {
-    /// No tickets.
+    /// Returns the list without tickets.
     pub(crate) fn new(alloc: Global) -> Ready
         ensures { result.tickets ≡ [] }
     {
@@ -34,7 +34,7 @@ impl Ready {
         }
     }
 
-    /// Finds memory for so many more tickets.
+    /// Reserves memory for `more` further tickets.
     pub(crate) fn reserve(&mut self, more: usize) -> Result<(), AllocError>
         ensures memory { OnOk result (length self.new.tickets + more ≤ self.new.memory) }
         ensures no_less { self.old.memory ≤ self.new.memory }
@@ -43,7 +43,7 @@ impl Ready {
         self.tickets.reserve(more)
     }
 
-    /// Adds a ticket, where it isn't among them.
+    /// Adds `ticket`, unless it is there.
     pub(crate) fn put(&mut self, ticket: u64)
         requires first { 0 < ticket }
         requires memory { length self.old.tickets < self.old.memory }
@@ -60,7 +60,7 @@ impl Ready {
         }
     }
 
-    /// Gives up a ticket, where it is among them.
+    /// Removes `ticket`, if it is there.
     pub(crate) fn remove(&mut self, ticket: u64)
         ensures tickets { self.new.tickets ≡ all_but (λ t. t) ticket self.old.tickets }
         ensures memory { self.old.memory ≤ self.new.memory }
@@ -73,7 +73,7 @@ impl Ready {
         }
     }
 
-    /// The least ticket.
+    /// Returns the smallest ticket.
     pub(crate) fn first(&self) -> Option<u64>
         ensures { result ≡ slice_get self.now.tickets 0 }
     {
@@ -81,7 +81,7 @@ impl Ready {
         Some(*ticket)
     }
 
-    /// How many there are.
+    /// Returns how many tickets there are.
     pub(crate) fn len(&self) -> usize
         ensures { result ≡ length self.now.tickets }
     {

@@ -1,4 +1,4 @@
-//! Open requests under their tickets.
+//! Open requests by their tickets.
 ghost use Rattle.std.specs.Prelude.{◌≡◌, ◌<◌, ◌^◌, ◌++◌, ◌∷◌, [], None, Some, OnErr, OnOk, find, length, map};
 ghost use Rattle.std.specs.BTreeMap.{insert_entry, is_at};
 ghost use Rattle.std.specs.Map.{lookup, set_value};
@@ -14,7 +14,7 @@ use std::alloc::{AllocError, Global};
 use std::collections::BTreeMap;
 use std::marker::Model;
 
-/// Open requests, in order of their tickets. A request is found by its ticket, and in no other way.
+/// Open requests, in order of their tickets. A request is found only by its ticket.
 #[derive(Drop)]
 pub(crate) struct Slots {
     under: BTreeMap<u64, Slot>,
@@ -35,7 +35,7 @@ impl Model for Slots {
 }
 
 impl Slots {
-    /// No open requests.
+    /// Returns the list without requests.
     pub(crate) fn new(alloc: Global) -> Slots
         ensures { result ≡ [] }
     {
@@ -55,7 +55,7 @@ impl Slots {
         Ok(())
     }
 
-    /// How many requests are open.
+    /// Returns how many requests are open.
     pub(crate) fn len(&self) -> usize
         ensures value { result ≡ length self.now }
         ensures few { result < 2 ^ 63 }
@@ -63,14 +63,14 @@ impl Slots {
         self.under.len()
     }
 
-    /// The open request of this ticket.
+    /// Returns the open request `ticket`.
     pub(crate) fn get(&self, ticket: u64) -> Option<&Slot>
         ensures { option_copied result ≡ find (has_ticket ticket) self.now }
     {
         self.under.get(&ticket)
     }
 
-    /// Takes out the open request of this ticket.
+    /// Removes the open request `ticket` and returns it.
     pub(crate) fn remove(&mut self, ticket: u64) -> Option<Slot>
         ensures value { result ≡ find (has_ticket ticket) self.old }
         ensures left { self.new ≡ without ticket self.old }
@@ -78,7 +78,7 @@ impl Slots {
         self.under.remove(&ticket)
     }
 
-    /// Gives the open request of this ticket its reply.
+    /// Gives request `ticket` its reply, if it is open.
     pub(crate) fn settle(&mut self, ticket: u64, settled: Settled)
         ensures { self.new ≡ changed ticket_in ticket (settle_with settled) self.old }
     {
@@ -86,7 +86,7 @@ impl Slots {
     }
 }
 
-/// Puts a slot under its ticket.
+/// Adds `slot` under its ticket.
 fn put(under: &mut BTreeMap<u64, Slot>, slot: Slot) -> Result<(), AllocError>
     ensures put { OnOk result (under.new.entries ≡ insert_entry nat_cmp under.old.entries slot.entry.ticket slot) }
     ensures unchanged { OnErr result (under.new.entries ≡ under.old.entries) }
@@ -95,7 +95,7 @@ fn put(under: &mut BTreeMap<u64, Slot>, slot: Slot) -> Result<(), AllocError>
     Ok(())
 }
 
-/// Gives the slot under this ticket its reply.
+/// Gives the slot under `ticket` its reply, if there is one.
 fn settle(under: &mut BTreeMap<u64, Slot>, ticket: u64, settled: Settled)
     ensures settled { (s : Slot) → lookup (is_at (nat_cmp ticket)) under.old.entries ≡ Some s
         → under.new.entries ≡ set_value (is_at (nat_cmp ticket)) under.old.entries (settle_with settled s) }

@@ -27,14 +27,14 @@ follows : (more : List (List ℕ)) (before : Option Chain) (r : Result (Option C
 follows [] before r some = absurd (omega (arith, some))
 follows (line ∷ more) before r some = refl
 
--- what stands in a chunk after its first three lines, and after it
+-- what is in a chunk after its first three lines, and after it
 abbrev rest_of : List (List ℕ) → List (List ℕ) → List (List ℕ)
 rest_of own tail = own ++ last_line ∷ tail
 
 rest_some : (own tail : List (List ℕ)) → 1 ≤ length (rest_of own tail)
 rest_some own tail = omega (arith, length-append own (last_line ∷ tail))
 
--- a chunk with so many entries before it
+-- a chunk with `at` entries before it
 abbrev chunk_at : ℕ → Chunk → List (List ℕ) → List (List ℕ)
 chunk_at at k tail = first_line k.version ∷ k.settings ∷ at_line at ∷ rest_of k.entries tail
 
@@ -166,7 +166,7 @@ chunk-on before c earlier es own k tail joined texts some names few told =
     header-on before k c n tail (chain_in c k.version earlier es) names (settings_text n k tail texts) few joined
     ∙ lines-on (chain_in c k.version earlier es) k.entries tail own (rest_text n k tail texts) some told
 
--- how many entries stand before the next chunk
+-- how many entries come before the next chunk
 next_place : (es own : List Event) (k : Chunk) → length own ≡ length (entries_in k) → length (es ++ own) ≡ length es + length k.entries
 next_place es own k many =
     let mark : List ℕ → Version × List ℕ = λ line. (k.version, line) in
@@ -210,7 +210,7 @@ chunks-on before c earlier es k (next ∷ more) tail events joined texts some na
 small : (events : ℕ) → events ≤ 2 ^ 61 → 0 + events ≤ most
 small events h = omega (arith, h)
 
--- the chain that a run comes to
+-- the chain after a run
 abbrev chain_after : Option Chain → Run → Chain
 chain_after before r = chain_in r.settings (last_version r.first.version r.others) (entries before) r.events
 

@@ -1,4 +1,4 @@
--- What the first three lines of a chunk tell where they are right, and what the line of an entry does.
+-- What the first three lines of a chunk say if they are right, and what the line of an entry does.
 use Rattle.std.proofs.Common.{◌≡◌, ℕ, ◌≤◌, ◌<◌, ◌^◌, ◌==◌, List, [], ◌∷◌, ◌++◌, Bool, true, false, not, cond, Option, Some, None, Result, Ok, Err, refl, ap, ◌∙◌, sym, subst, length, bytes_eq, codes, decimal, option_map, arith}
 use Rattle.std.proofs.lemmas.Bool.Decides.{nat_tests}
 use Rattle.std.proofs.lemmas.Slice.Eq.{bytes_eq-Decides}

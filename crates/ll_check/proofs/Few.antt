@@ -123,7 +123,7 @@ unfull_by None true h = cc
 unfull_by None false h = refl
 unfull_by (Some fault) full h = cc
 
--- a reply that is told is there
+-- a reply that is recorded is there
 there_by : (v : Version) (o : Option Settled) (reply : Outcome) → Some reply ≡ option_map (told_in v) (option_map (λ (s : Settled). outcome_of (reply_of s)) o) → is_some o ≡ true
 there_by v None reply h = cc
 there_by v (Some s) reply h = refl
@@ -160,7 +160,7 @@ few_from c (line ∷ lines) before (e ∷ events) told f =
     (few_from c lines (before ++ e ∷ []) events told.1
     (subst (λ e. AreFew c (before ++ e ∷ [])) right.1 (few-after line.0 c before entry right.0 f)))
 
--- as many events as this are told of
+-- as many events as this are recorded
 pub few : (c : Configuration) (lines : List (Version × List ℕ)) (events : List Event) → AreToldBy c lines (steps_from [] events) → length events ≤ 2 ^ 61
 few c lines events told =
     let f = few_from c lines [] events told (record { open_few = omega arith; few = omega arith }) in

@@ -25,7 +25,7 @@ another-is before v c room earlier is new n =
       stands = subst (λ (h : RoomValue). h ≡ room_value h.channel h.settings (state_of h.settings [])) (sym new) refl;
     })
 
--- a chunk can't stand where it does, whatever its settings, which are settings
+-- a chunk can't be where it is, whatever its settings, which are settings
 pub place-first : (before : Option Chain) (v : Version) (s : Result Configuration SettingsFault) (at : ℕ) (fault : Option CheckKind) (kind : CheckKind) → IsOk s
     → ((c : Configuration) → MatchOption fault (joined_at before v c at ≡ met before v c at) (λ k. joined_at before v c at ≡ Err k))
     → kind ≡ unwrap_or fault Memory → kind ≢ Memory → begun_by before (Some v) s (Some at) ≡ Err kind

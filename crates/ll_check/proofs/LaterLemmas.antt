@@ -1,4 +1,4 @@
--- Nothing is found wrong at an entry that was passed: what lines come to is told at the entry after those so far, or later.
+-- Nothing is found wrong at an entry that was passed: the result of lines is at the entry after those so far, or later.
 use Rattle.std.proofs.Common.{◌≡◌, ℕ, ◌+◌, ◌==◌, ◌≤◌, List, [], ◌∷◌, ◌++◌, Bool, true, false, cond, Option, Some, None, Result, Ok, Err, IfErr, refl, ap, sym, subst, ◌∙◌, true≢false, not, length, nat_le, bytes_eq, arith}
 use Rattle.std.proofs.lemmas.Bool.Decides.{nat_tests}
 use Rattle.std.proofs.lemmas.List.{length-append}
@@ -26,7 +26,7 @@ lower : (m n : ℕ) (r : Result (Option Chain) CheckFault) → m ≤ n → not_b
 lower m n (Ok now) le h = refl
 lower m n (Err f) le h = grind (arith, nat_tests, le, h)
 
--- where nothing is found wrong before the entry after those of some chains
+-- if nothing is found wrong before the entry after those of some chains
 abbrev Later : Option Chain → Result (Option Chain) CheckFault → Type 0
 Later before r = not_before (entries before + 1) r ≡ true
 
@@ -119,12 +119,12 @@ later (Inside ch) (line ∷ more) =
     ended-later more (Some ch) _ (either-later (entries (Some ch) + 1) (bytes_eq line last_line) _ _ (later (Between (Some ch)) more)
     (entry-later ch (entry_at ch.version ch.settings (text_in line)) (λ now. checked_from (Inside now) more) (λ now. later (Inside now) more)))
 
--- the same of what comes to lines further on
+-- the same of the result of lines further on
 pub later-as : (n : ℕ) (p : Position) (lines : List (List ℕ)) (r : Result (Option Chain) CheckFault) → r ≡ checked_from p lines → n ≡ entries (so_far p) + 1
     → not_before n r ≡ true
 later-as n p lines r e is = ap (not_before n) e ∙ ap (λ n. not_before n (checked_from p lines)) is ∙ later p lines
 
--- counting entries wants no memory
+-- counting entries needs no memory
 abbrev no_memory : CheckKind → Bool
 no_memory Memory = false
 no_memory other = true

@@ -1,4 +1,4 @@
--- Where what is kept stands.
+-- The position of what is kept.
 use Rattle.std.proofs.Common.{◌≡◌, Option, Some, None, refl, sym, subst, ◌∙◌}
 use Rattle.ll_check.specs.Found.{ChainValue, IsAt, IsOf}
 use Rattle.ll_entry.specs.Chain.{Between, Chain, Inside}

@@ -53,7 +53,7 @@ passed-then p q s lines mid rest x y = record {
   leads = reached-onward p x.passed y.passed q x.leads ∙ y.leads;
 }
 
--- those that tell something
+-- those that say something
 pub passed-told : (p next : Position) (t : Told) (lines rest : List (List ℕ)) → Tells p t next lines rest → Passed p next lines rest
 passed-told (Between before) (Inside ch) (told.Begun settings at) lines rest h = record {
   passed = h.header.first ∷ settings.now ∷ h.header.place ∷ [];

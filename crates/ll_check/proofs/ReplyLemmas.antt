@@ -1,7 +1,7 @@
--- The replies that entries bring.
+-- The replies of entries.
 use Rattle.std.proofs.Common.{◌≡◌, ℕ, List, [], ◌∷◌, ◌++◌, Option, None, Result, Ok, Err, IfOk, ap, ap₂, sym, subst, ◌∙◌}
 use Rattle.ll_check.specs.EntryReplies.{brought_in}
-use Rattle.ll_enter.specs.Brought.{brought_by}
+use Rattle.ll_entry_check.specs.Brought.{brought_by}
 use Rattle.ll_check.specs.Found.{ChainValue, IsOf}
 use Rattle.ll_entry.specs.Chain.{Chain, joined, joined_by}
 use Rattle.ll_entry.specs.Entered.{event_of, fault_in}
@@ -14,7 +14,7 @@ use Rattle.ll_room.specs.RoomValue.{RoomValue, Stands}
 use Rattle.ll_verdict.specs.Events.{Event}
 use Rattle.ll_verdict.specs.declared.reply.Reply.{Reply}
 
--- the entry of a line brings what its event does
+-- the entry of a line has the reply of its event
 pub brought-of : (k : ChainValue) (ch : Chain) (text : List ℕ) (version : Version) (settings : Configuration) (room : RoomValue) (entry : Recorded)
     (r : Result (Option Reply) CheckKind) → IsOf k ch → version ≡ k.version → settings ≡ k.room.settings → room ≡ k.room → entry_in version settings text ≡ Ok entry
     → ((events : List Event) → Stands room events

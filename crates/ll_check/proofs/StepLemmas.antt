@@ -1,4 +1,4 @@
--- What lines come to, by what the first of them tell.
+-- The result of lines, by what the first of them say.
 use Rattle.std.proofs.Common.{◌≡◌, ℕ, List, ◌∷◌, Bool, true, false, cond, Option, Some, None, Result, Ok, Err, refl, ap, ap₂, sym, subst, ◌∙◌, bytes_eq, length, option_map}
 use Rattle.ll_attr.specs.Words.{pieces_at}
 use Rattle.ll_check.proofs.Begun.{begun_parts}
@@ -6,8 +6,8 @@ use Rattle.ll_check.specs.Found.{AreKept, ChainValue, IsAt, IsOf, so_far}
 use Rattle.ll_check.specs.Joined.{IsBegun, IsJoined}
 use Rattle.ll_check.specs.Lines.{IsText}
 use Rattle.ll_check.specs.Steps.{IsBegunBy, IsEntry, IsHeader, IsOver, Moves, Tells, in_full}
-use Rattle.ll_enter.specs.Full.{without_item}
-use Rattle.ll_enter.specs.declared.full.FullEntry.{FullEntry}
+use Rattle.ll_entry_check.specs.Full.{without_item}
+use Rattle.ll_entry_check.specs.declared.full.FullEntry.{FullEntry}
 use Rattle.ll_check.specs.declared.told.Told.{Told}
 use Rattle.ll_check.specs.declared.told.Told.TheVariants as told
 use Rattle.ll_entry.proofs.ChainLemmas.{ended-parts, header-is}
@@ -22,7 +22,7 @@ use Rattle.ll_item.specs.declared.settings.SettingsFault.{SettingsFault}
 
 -- ---- one line of a chunk
 
--- what a line comes to that isn't the last of its chunk
+-- the result of a line that isn't the last of its chunk
 abbrev after_entry : Chain → List ℕ → Result Chain CheckKind → Result (Option Chain) CheckFault
 after_entry ch rest r = go_on (Some ch) r (λ now. checked_from (Inside now) (pieces_at 10 rest))
 
@@ -37,7 +37,7 @@ line-is ch lines line rest last r e end is =
     ∙ ap (λ b. line_by ch rest b (with_line ch line)) end
     ∙ ap (line_by ch rest last) is
 
--- ---- what is told
+-- ---- what is said
 
 pub moved : (p next : Position) (t : Told) (lines : List (List ℕ)) (rest : List ℕ) → Tells p t next lines (pieces_at 10 rest)
     → checked_from p lines ≡ checked_from next (pieces_at 10 rest)
@@ -104,7 +104,7 @@ entry-wrong ch text lines rest kind is fails =
 
 -- ---- one after another
 
--- lines come from a position to what the rest of them comes to from where it is
+-- lines have the result that the rest of them has from the position after the first
 pub record GoesTo (kept : Option ChainValue) (p : Position) (lines rest : List (List ℕ)) : Type 0 where
   pub now : Position
   pub at : IsAt kept now
@@ -119,7 +119,7 @@ goes-on kept new p lines mid rest t g on =
     let m = on g.now g.at in
     record { now = m.next; at = m.at; same = g.same ∙ moved g.now m.next t mid rest m.by }
 
--- where no text is left between chunks
+-- if no text is left between chunks
 pub over-at : (kept new : Option ChainValue) (q : Position) (rest : List ℕ) → IsAt kept q → IsOver kept new q rest
     → IsAt new (Between (so_far q)) × (checked_from q (pieces_at 10 rest) ≡ Ok (so_far q))
 over-at kept new q rest at o = (

@@ -1,5 +1,5 @@
--- A text that is found right, taken apart line by line from its last one on: its runs, their chunks, the entries of these, and the events that
--- they tell.
+-- A text that is found right, taken apart line by line from its last one on: its runs, their chunks, the entries of these, and their
+-- events.
 use Rattle.std.proofs.Common.{◌≡◌, ℕ, ◌+◌, ◌≤◌, List, [], ◌∷◌, ◌++◌, Bool, true, false, not, cond, Option, Some, None, Result, Ok, Err, refl, ap, ap₂, ◌∙◌, sym, subst, length, length-append, map, bytes_eq, arith}
 use Rattle.std.proofs.lemmas.Bool.{and_from}
 use Rattle.std.proofs.lemmas.List.Elements.{All-cons, All-nil}
@@ -47,8 +47,8 @@ record Runs (before : Option Chain) (lines : List (List ℕ)) (end : Option Chai
   many : entries end ≡ entries before + events_in runs
   ends : length runs ≡ 0 → end ≡ before
 
--- What these lines are after a chunk that isn't told to its end yet, of which so many lines are left: further chunks of the same run, which
--- together with those lines tell further events, and further runs.
+-- What `lines` are after a chunk whose end isn't reached, of which the lines `own` are left: further chunks of the same run, which together
+-- with those lines have further events, and further runs.
 record Left (ch : Chain) (own lines : List (List ℕ)) (end : Option Chain) : Type 0 where
   events : List Event
   others : List Chunk
@@ -76,7 +76,7 @@ Walked (Between None) lines end = Runs None lines end
 Walked (Between (Some ch)) lines end = Left ch [] lines end
 Walked (Inside ch) lines end = Inner ch lines end
 
--- ---- what the parts of the walk tell
+-- ---- what the parts of the walk say
 
 ended : (more : List (List ℕ)) (before end : Option Chain) (r : Result (Option Chain) CheckFault) → ended_line more before r ≡ Ok end → r ≡ Ok end
 ended [] before end r h = cc

@@ -1,4 +1,4 @@
--- What a whole text comes to.
+-- The result of a whole text.
 use Rattle.std.proofs.Common.{◌≡◌, ◌≢◌, ℕ, List, Option, None, Result, Ok, Err, IfOk, IfErr, ap, sym, ◌∙◌}
 use Rattle.ll_attr.specs.Words.{pieces_at}
 use Rattle.ll_check.proofs.Places.{first-at}
@@ -7,7 +7,7 @@ use Rattle.ll_entry.specs.Chain.{Between, Chain, Position, checked, checked_from
 use Rattle.ll_entry.specs.declared.fault.CheckFault.{CheckFault}
 use Rattle.ll_entry.specs.declared.fault.CheckKind.TheVariants.{Memory}
 
--- what bytes come to that are read to their end from the start
+-- the result of bytes that are read to their end from the start
 pub whole : (bytes : List ℕ) (first kept : Option ChainValue) (r : Result ℕ CheckFault) → first ≡ None
     → ((p : Position) → IsAt first p → (now : Option Chain) × IsAt kept (Between now) × (checked_from p (pieces_at 10 bytes) ≡ Ok now))
     → ((p : Position) → IsAt kept p → r ≡ counted (Ok (so_far p))) → checked bytes ≡ r

@@ -1,9 +1,9 @@
--- The replies that the entries of a record bring.
+-- The replies of a record's entries.
 use Rattle.std.specs.Prelude.{◌≡◌, List, ◌∷◌, Option, None, Result, Ok, Err, ℕ, bytes_eq, false}
 use Rattle.ll_attr.specs.Words.{pieces_at}
 use Rattle.ll_check.specs.Found.{ChainValue}
 use Rattle.ll_check.specs.Steps.{has_entry}
-use Rattle.ll_enter.specs.Brought.{brought_by}
+use Rattle.ll_entry_check.specs.Brought.{brought_by}
 use Rattle.ll_entry.specs.Chain.{Between, Chain, Inside, Position, entry_at, text_in, with_line}
 use Rattle.ll_entry.specs.Entered.{event_of}
 use Rattle.ll_entry.specs.Frame.{last_line}
@@ -15,11 +15,11 @@ abbrev pub brought_in : Chain → Result Recorded EntryFault → Option Reply
 brought_in ch (Ok entry) = brought_by ch.settings ch.events (event_of entry)
 brought_in ch (Err fault) = None
 
--- what the entry of a line brings after a chain
+-- the reply of a line's entry after a chain
 abbrev pub brought : Chain → List ℕ → Option Reply
 brought ch line = brought_in ch (entry_at ch.version ch.settings (text_in line))
 
--- the first of these lines is that of an entry which is right after a chain, and brings this
+-- the first of these lines is that of an entry which is right after a chain, and has this reply
 pub record IsBrought (ch : Chain) (line : List ℕ) (reply : Option Reply) (lines : List (List ℕ)) : Type 0 where
   pub rest : List ℕ
   pub are : lines ≡ line ∷ pieces_at 10 rest

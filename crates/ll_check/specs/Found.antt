@@ -9,7 +9,7 @@ pub record ChainValue : Type 0 where
   pub room : RoomValue
   -- the format of its last chunk
   pub version : Version
-  -- how many entries the chains before it have
+  -- the number of entries of the chains before it
   pub earlier : ℕ
   -- whether the last line of its last chunk is still to come
   pub inside : Bool

@@ -18,7 +18,8 @@ abbrev pub IsJoined : ChainValue → Result Chain CheckKind → Type 0
 IsJoined k (Ok ch) = IsOf k ch
 IsJoined k (Err kind) = ⊥
 
--- the chain of a chunk in this format, of a channel of these settings, that can come where it stands: after no entries of its chain, or after so many
+-- the chain of a chunk in this format, of a channel of these settings, at a place where it can be: after no entries of its chain, or after
+-- `at` entries
 abbrev pub met : Option Chain → Version → Configuration → ℕ → Result Chain CheckKind
 met before v c zero = another before v c
 met None v c (suc at) = Err Gap

@@ -1,4 +1,4 @@
--- What a text has to be to be found right, in the terms of channels and their events.
+-- Which texts are found right, in terms of channels and their events.
 use Rattle.std.specs.Prelude.{◌≡◌, ◌↔◌, ◌≤◌, ◌+◌, ℕ, List, [], ◌∷◌, ◌++◌, Bool, true, not, ◌&&◌, Some, Ok, All, codes, decimal, length, map}
 use Rattle.std.specs.List.{flat_map}
 use Rattle.std.specs.Str.{is_utf8}
@@ -20,7 +20,7 @@ pub record Chunk : Type 0 where
   -- the lines of its entries
   pub entries : List (List ℕ)
 
--- what happened to a channel from one start of it to the next, and the chunks that tell it
+-- what happened to a channel from one start of it to the next, and the chunks with it
 pub record Run : Type 0 where
   pub settings : Configuration
   pub events : List Event
@@ -32,30 +32,30 @@ chunks r = r.first ∷ r.others
 
 -- ---- the text
 
--- What stands between the line feeds of these chunks, with so many entries of their run before them, and of the lines after them.
+-- The texts between the line feeds of these chunks, with `at` entries of their run before them, and of the lines after them.
 abbrev pub chunk_lines : ℕ → List Chunk → List (List ℕ) → List (List ℕ)
 chunk_lines at [] after = after
 chunk_lines at (k ∷ more) after =
     first_line k.version ∷ k.settings ∷ (codes "at " ++ decimal at) ∷ (k.entries ++ last_line ∷ chunk_lines (at + length k.entries) more after)
 
--- What stands between the line feeds of these runs. Each line has its end, so nothing stands after the last one.
+-- The texts between the line feeds of these runs. Each line has its end, so nothing follows the last one.
 abbrev pub lines_of : List Run → List (List ℕ)
 lines_of [] = [] ∷ []
 lines_of (r ∷ more) = chunk_lines 0 (chunks r) (lines_of more)
 
--- ---- what it tells
+-- ---- what it says
 
 -- the lines of a chunk's entries, each in the format of the chunk
 abbrev pub entries_in : Chunk → List (Version × List ℕ)
 entries_in k = map (λ line. (k.version, line)) k.entries
 
--- a line is read as what its format tells of the entry of an event that can happen
+-- a line is read as what its format keeps of the entry of an event that can happen
 pub record IsToldBy (c : Configuration) (line : Version × List ℕ) (s : Step) : Type 0 where
   pub entry : Recorded
   pub happens : entry_of c s ≡ Some entry
   pub read : entry_in line.0 c line.1 ≡ Ok (as_told line.0 entry)
 
--- these lines tell these events, each one of them, in order
+-- these lines have these events, each one of them, in order
 abbrev pub AreToldBy : Configuration → List (Version × List ℕ) → List Step → Type 0
 AreToldBy c [] [] = Unit
 AreToldBy c (line ∷ lines) (s ∷ more) = IsToldBy c line s × AreToldBy c lines more
@@ -66,20 +66,20 @@ abbrev pub are_in_order : Version → List Chunk → Bool
 are_in_order version [] = true
 are_in_order version (k ∷ more) = not (is_older k.version version) && are_in_order k.version more
 
--- The chunks of a run each name its channel and its settings, and tell its events. A chunk with no entries before it begins a run, so the first
--- has one where others follow.
+-- The chunks of a run each name its channel and its settings, and have its events. A chunk with no entries before it begins a run, so the
+-- first has an entry if others follow.
 pub record IsRun (r : Run) : Type 0 where
   pub named : All (λ (k : Chunk). settings_in k.settings ≡ Ok r.settings) (chunks r)
   pub in_order : are_in_order r.first.version r.others ≡ true
   pub begun : 1 ≤ length r.others → 1 ≤ length r.first.entries
   pub told : AreToldBy r.settings (flat_map entries_in (chunks r)) (steps r.events)
 
--- how many events these runs have
+-- the number of events of these runs
 abbrev pub events_in : List Run → ℕ
 events_in [] = 0
 events_in (r ∷ more) = length r.events + events_in more
 
--- A text is the record of one run of a channel or more, of so many events in all.
+-- A text is the record of one run of a channel or more, with `n` events in all.
 pub record IsRecord (text : List ℕ) (n : ℕ) : Type 0 where
   pub channel : List ℕ
   pub runs : List Run
@@ -90,6 +90,6 @@ pub record IsRecord (text : List ℕ) (n : ℕ) : Type 0 where
   pub utf8 : All (λ line. is_utf8 line ≡ true) (lines_of runs)
   pub many : events_in runs ≡ n
 
--- a text is found right, with so many entries, exactly where it is the record of so many events of some channel
+-- a text is found right, with `n` entries, exactly if it is the record of `n` events of some channel
 abbrev pub RecordLaw : Type 0
 RecordLaw = (text : List ℕ) (n : ℕ) → (checked text ≡ Ok n) ↔ IsRecord text n

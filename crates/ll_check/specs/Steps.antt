@@ -1,10 +1,10 @@
--- What the next lines of a record tell, and where they lead.
+-- What the next lines of a record say, and where they lead.
 use Rattle.std.specs.Prelude.{◌≡◌, ℕ, List, [], ◌∷◌, Bool, true, false, Option, Some, None, Result, Ok, Err, bytes_eq, if◌then◌else◌, length, not, option_map}
 use Rattle.ll_check.specs.Found.{ChainValue, IsAt, so_far}
 use Rattle.ll_check.specs.declared.told.Told.{Told}
 use Rattle.ll_check.specs.declared.told.Told.TheVariants as told
-use Rattle.ll_enter.specs.Full.{without_item}
-use Rattle.ll_enter.specs.declared.full.FullEntry.{FullEntry}
+use Rattle.ll_entry_check.specs.Full.{without_item}
+use Rattle.ll_entry_check.specs.declared.full.FullEntry.{FullEntry}
 use Rattle.ll_entry.specs.Chain.{Between, Chain, Inside, Position, begun, entry_at, text_in, with_line}
 use Rattle.ll_entry.specs.Entered.{event_of}
 use Rattle.ll_entry.specs.Frame.{last_line}
@@ -14,28 +14,28 @@ use Rattle.ll_entry.specs.declared.entry.Recorded.{Recorded}
 use Rattle.ll_entry.specs.declared.fault.CheckKind.{CheckKind}
 use Rattle.ll_entry.specs.declared.version.Version.{Version}
 
--- The entry of the event that is read so, as it is told in full: with what its reply comes to, whatever the line's format tells of that.
+-- The entry in full of the event that is read so: its reply has the whole outcome, whatever the line's format keeps of that.
 abbrev pub in_full : Chain → Result Recorded EntryFault → Option Recorded
 in_full ch (Ok entry) = entry_after ch.settings ch.events (event_of entry)
 in_full ch (Err fault) = None
 
--- the entry that a line tells after a chain, in full
+-- the entry in full of a line after a chain
 abbrev pub full_entry : Chain → List ℕ → Option Recorded
 full_entry ch line = in_full ch (entry_at ch.version ch.settings (text_in line))
 
--- They are the first three lines of a chunk with this settings line, and come to this.
+-- They are the first three lines of a chunk with this settings line, and their result is `joined`.
 pub record IsHeader (before : Option Chain) (joined : Result Chain CheckKind) (settings : List ℕ) (lines rest : List (List ℕ)) : Type 0 where
   pub first : List ℕ
   pub place : List ℕ
   pub are : lines ≡ first ∷ settings ∷ place ∷ rest
   pub begun : begun before (text_in first) (text_in settings) (text_in place) ≡ joined
 
--- They lead to this chain, which has so many entries.
+-- They lead to this chain, which has `at` entries.
 pub record IsBegunBy (before : Option Chain) (settings : List ℕ) (at : ℕ) (ch : Chain) (lines rest : List (List ℕ)) : Type 0 where
   pub header : IsHeader before (Ok ch) settings lines rest
   pub many : at ≡ length ch.events
 
--- it is the line of an entry in this format, which tells this and leads from one chain to the other
+-- it is the line of an entry in this format, which is this in full and leads from one chain to the other
 pub record IsEntry (ch : Chain) (version : Version) (line : List ℕ) (entry : FullEntry) (now : Chain) (lines rest : List (List ℕ)) : Type 0 where
   pub are : lines ≡ line ∷ rest
   pub other : bytes_eq line last_line ≡ false
@@ -50,14 +50,14 @@ pub record IsEnd (ch : Chain) (before : Option Chain) (lines rest : List (List �
   pub last : bytes_eq line last_line ≡ true
   pub same : before ≡ Some ch
 
--- the first of these lines tell this, and lead from one position to the other, before the rest
+-- the first of these lines say this, and lead from one position to the other, before the rest
 abbrev pub Tells : Position → Told → Position → List (List ℕ) → List (List ℕ) → Type 0
 Tells (Between before) (told.Begun settings at) (Inside ch) lines rest = IsBegunBy before settings.now at ch lines rest
 Tells (Inside ch) (told.Entry version line entry) (Inside now) lines rest = IsEntry ch version line.now entry now lines rest
 Tells (Inside ch) told.Ended (Between before) lines rest = IsEnd ch before lines rest
 Tells p told now lines rest = ⊥
 
--- what is kept has gone from a position over the lines that told this
+-- what is kept has gone from a position over the lines that say this
 pub record Moves (kept : Option ChainValue) (p : Position) (told : Told) (lines rest : List (List ℕ)) : Type 0 where
   pub next : Position
   pub at : IsAt kept next
@@ -69,7 +69,7 @@ pub record IsOver (old new : Option ChainValue) (p : Position) (text : List ℕ)
   pub none : text ≡ []
   pub same : new ≡ old
 
--- whether the first of these lines stands inside of a chunk and isn't its last
+-- whether the first of these lines is inside a chunk and isn't its last
 abbrev pub has_entry : Position → List (List ℕ) → Bool
 has_entry (Between before) lines = false
 has_entry (Inside ch) [] = false
@@ -79,7 +79,7 @@ abbrev pub reached_by : Result Chain CheckKind → (Chain → Option Position) �
 reached_by (Ok ch) from = from ch
 reached_by (Err kind) from = None
 
--- where these lines lead from a position, where each of them is right
+-- where these lines lead from a position, if each of them is right
 abbrev pub reached : Position → List (List ℕ) → Option Position
 reached p [] = Some p
 reached (Between before) (first ∷ []) = None

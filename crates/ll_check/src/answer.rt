@@ -1,11 +1,11 @@
-//! The line that tells what a check came to.
+//! The line with the result of a check.
 ghost use Rattle.std.specs.Prelude.{◌≡◌, IfOk, string_bytes};
 ghost use Rattle.ll_check.specs.Answer as spec;
 
 use ll_entry::{CheckFault, CheckKind};
 use std::alloc::{AllocError, Global};
 
-/// `ok N` for a chain of N entries that is right, `bad ENTRY NAME` for one that isn't.
+/// Returns the line `ok N` for a chain of N entries that is right, `bad ENTRY NAME` for one that is wrong.
 pub fn answer_line(alloc: Global, answer: Result<u64, CheckFault>) -> Result<String, AllocError>
     ensures { IfOk result (λ t. string_bytes t ≡ spec.answer_line answer) }
 {
@@ -29,7 +29,7 @@ fn bad_line(alloc: Global, entry: u64, name: &str) -> Result<String, AllocError>
     format!(in alloc; "bad {entry} {name}\n")
 }
 
-/// The name of how a chain isn't right.
+/// Returns the name of a kind of fault.
 fn kind_name(kind: CheckKind) -> &'static str
     ensures { result.now ≡ spec.kind_name kind }
 {

@@ -1,4 +1,4 @@
-//! The first three lines of a chunk, which say whose it is and where it stands.
+//! The first three lines of a chunk, which say whose it is and where it continues.
 ghost use Rattle.std.specs.Prelude.{◌≡◌, ◌≢◌, ◌<◌, IfErr, IfOk, IfSome, MatchOption, OnOk, Option, Some, Err, length, true};
 ghost use Rattle.std.specs.Bool.{Decides};
 ghost use Rattle.ll_attr.specs.Words.{pieces_at};
@@ -19,18 +19,18 @@ use ll_item::{Settings, SettingsFault};
 use ll_room::Replayer;
 use std::alloc::Global;
 
-/// What the first three lines of a chunk tell.
+/// The first three lines of a chunk, parsed.
 #[derive(Clone, Copy)]
 struct Header<'a> {
     /// The format of its entries.
     version: Version,
     /// The settings line.
     settings: &'a str,
-    /// How many entries of its chain stand before the chunk.
+    /// The number of its chain's entries before the chunk.
     at: u64,
 }
 
-/// Reads a chunk's first three lines, where such a chunk can come next, and answers what they tell and what stands after them.
+/// Reads a chunk's first three lines, if such a chunk can come next, and returns what they say and what follows them.
 pub(crate) fn begin<'a>(
     alloc: Global,
     chain: &mut Option<Chain>,
@@ -52,7 +52,7 @@ pub(crate) fn begin<'a>(
     }
 }
 
-/// What the first three lines of a chunk tell, where they have their form, and what stands after them.
+/// Parses the first three lines of a chunk, and returns what follows them; `None` if they haven't their form.
 fn header_of(text: &[u8]) -> Option<(Header<'_>, &[u8])>
     requires { 0 < length text.now }
     ensures header { (before : Option spec.Chain) → MatchOption result (checked_from (Between before) (pieces_at 10 text.now) ≡ wrong before CheckKind.BadChunk)
@@ -68,7 +68,7 @@ fn header_of(text: &[u8]) -> Option<(Header<'_>, &[u8])>
     }
 }
 
-/// What these lines tell as the first three of a chunk, where they have their form.
+/// Parses three lines as the first of a chunk; `None` if they haven't their form.
 fn told<'a>(first: &'a [u8], settings: &'a [u8], at: &'a [u8]) -> Option<Header<'a>>
     ensures { (before : Option spec.Chain) → MatchOption result (begun before (spec.text_in first.now) (spec.text_in settings.now) (spec.text_in at.now) ≡ Err CheckKind.BadChunk)
         (λ h. (begun before (spec.text_in first.now) (spec.text_in settings.now) (spec.text_in at.now) ≡ begun_by before (Some h.version) (settings_in h.settings.now) (Some h.at))
@@ -80,7 +80,7 @@ fn told<'a>(first: &'a [u8], settings: &'a [u8], at: &'a [u8]) -> Option<Header<
     told_by(first, settings, at)
 }
 
-/// What these texts tell as the first three lines of a chunk, where they have their form.
+/// Parses three texts as the first lines of a chunk; `None` if they haven't their form.
 fn told_by<'a>(first: &'a str, settings: &'a str, at: &'a str) -> Option<Header<'a>>
     ensures { (before : Option spec.Chain) → MatchOption result (begun before (Some first.now) (Some settings.now) (Some at.now) ≡ Err CheckKind.BadChunk)
         (λ h. (begun before (Some first.now) (Some settings.now) (Some at.now) ≡ begun_by before (Some h.version) (settings_in h.settings.now) (Some h.at))
@@ -97,7 +97,7 @@ fn told_by<'a>(first: &'a str, settings: &'a str, at: &'a str) -> Option<Header<
     }
 }
 
-/// Begins the chain that a chunk begins, or goes on with the one that it goes on with. Want of memory comes after the faults that need no settings.
+/// Begins a chain with this header, or goes on with the last one. Memory comes after the faults that need no settings.
 fn join(alloc: Global, chain: &mut Option<Chain>, header: Header<'_>) -> Result<(), CheckKind>
     ensures right { (before : Option spec.Chain) → AreKept chain.old before
         → OnOk result (IsBegun chain.new (begun_by before (Some header.entry.version) (settings_in header.entry.settings.now) (Some header.entry.at))) }
@@ -116,7 +116,7 @@ fn join(alloc: Global, chain: &mut Option<Chain>, header: Header<'_>) -> Result<
     }
 }
 
-/// Why a chunk of this format can't stand at this place after the chains so far, whatever its settings; none where it can.
+/// Returns why a chunk with this header can't come after the chains so far, whatever its settings; `None` if it can.
 fn place_fault(chain: &Option<Chain>, header: Header<'_>) -> Option<CheckKind>
     ensures { (before : Option spec.Chain) (c : Configuration) → AreKept chain.now before
         → MatchOption result (joined_at before header.entry.version c header.entry.at ≡ met before header.entry.version c header.entry.at)
@@ -137,7 +137,7 @@ fn place_fault(chain: &Option<Chain>, header: Header<'_>) -> Option<CheckKind>
     None
 }
 
-/// Begins a chain of these settings, or goes on with the last one where it has them.
+/// Begins a chain of these settings, or goes on with the last one if it has them.
 fn meet(
     alloc: Global,
     chain: &mut Option<Chain>,
@@ -191,7 +191,7 @@ fn begin_another(
     Ok(())
 }
 
-/// Whether settings are equal.
+/// Returns whether two settings are equal.
 #[tactic(auto, using(ll_item::proofs::SameLemmas::settings_decided))]
 fn is_same(a: &Settings, b: &Settings) -> bool
     ensures value { result ≡ same_settings a.now b.now }
@@ -200,7 +200,7 @@ fn is_same(a: &Settings, b: &Settings) -> bool
     a == b
 }
 
-/// Whether a chunk of one format can't follow one of the other in a chain.
+/// Returns whether a chunk in format `a` can't follow one in format `b` in a chain.
 fn is_older(a: Version, b: Version) -> bool
     ensures { result ≡ frame.is_older a b }
 {

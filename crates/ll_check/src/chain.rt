@@ -9,7 +9,7 @@ use ll_item::Settings;
 use ll_room::Replayer;
 use std::marker::Model;
 
-/// The most entries that the chains before one may have: far more than any file holds.
+/// The most entries of the chains before one: far more than any file holds.
 pub(crate) const MOST_EARLIER: u64 = 1 << 62;
 
 /// A chain, as far as it was checked.
@@ -18,7 +18,7 @@ pub(crate) struct Chain {
     pub(crate) replayer: Replayer,
     /// The format of its last chunk.
     pub(crate) version: Version,
-    /// How many entries the chains before it have.
+    /// The number of entries of the chains before it.
     pub(crate) earlier: u64,
     /// Whether the last line of its last chunk is still to come.
     pub(crate) inside: bool,
@@ -36,7 +36,7 @@ impl Model for Chain {
 }
 
 impl Chain {
-    /// How many entries it has, with the chains before it.
+    /// Returns the number of its entries and of those of the chains before it.
     pub(crate) fn entries(&self) -> u64
         ensures value { result ≡ self.now.earlier + self.now.room.events }
         ensures few { result ≤ 2 ^ 63 }
@@ -44,7 +44,7 @@ impl Chain {
         self.earlier + self.replayer.room().events()
     }
 
-    /// The settings of its channel.
+    /// Returns the settings of its channel.
     pub(crate) fn settings(&self) -> &Settings
         ensures { result.now ≡ self.now.room.settings }
     {
@@ -52,7 +52,7 @@ impl Chain {
     }
 }
 
-/// How many entries all chains so far have.
+/// Returns the number of entries of all chains so far.
 pub(crate) fn entries_of(chain: &Option<Chain>) -> u64
     ensures value { (before : Option spec.Chain) → AreKept chain.now before → result ≡ spec.entries before }
     ensures few { result ≤ 2 ^ 63 }
@@ -63,7 +63,7 @@ pub(crate) fn entries_of(chain: &Option<Chain>) -> u64
     }
 }
 
-/// Whether what comes next stands inside of a chunk.
+/// Returns whether the next line is inside a chunk.
 pub(crate) fn is_inside(chain: &Option<Chain>) -> bool
     ensures { result ≡ found.is_inside chain.now }
 {
@@ -73,7 +73,7 @@ pub(crate) fn is_inside(chain: &Option<Chain>) -> bool
     }
 }
 
-/// Whether these settings are of the channel of the chains so far.
+/// Returns whether `settings` are of the channel of the chains so far.
 pub(crate) fn is_channel(chain: &Option<Chain>, settings: &Settings) -> bool
     ensures { (before : Option spec.Chain) → AreKept chain.now before → result ≡ spec.is_channel before settings.now }
 {

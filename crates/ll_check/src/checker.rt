@@ -1,4 +1,4 @@
-//! Records: the chains of a channel, one after another.
+//! The check of a record: the chains of a channel, one after another.
 ghost use Rattle.std.specs.Prelude.{◌≡◌, ◌≢◌, ◌+◌, ◌<◌, ◌≤◌, ◌^◌, IfErr, IfOk, IfSome, MatchOption, OnOk, Option, None, Ok, Err, false, length, true};
 ghost use Rattle.ll_attr.specs.Words.{pieces_at};
 ghost use Rattle.ll_entry.specs.Chain as spec;
@@ -15,8 +15,9 @@ use ll_entry::{CheckFault, CheckKind};
 use std::alloc::Global;
 use std::marker::Model;
 
-/// How many entries a file of chunks has, where it is a faithful record: one or more chains of one channel, each of chunks in sequence, in which
-/// every entry tells what can happen after the entries before it in its chain, and the right reply. Or the first entry at which it isn't one, and how.
+/// Returns how many entries a file of chunks has, if it is a faithful record: one or more chains of one channel, each of chunks in
+/// sequence, in which every entry says what can happen after the entries before it in its chain, and has the right reply. Else returns the
+/// first entry at which it is wrong, and how.
 pub fn check(alloc: Global, bytes: &[u8]) -> Result<u64, CheckFault>
     ensures value { IfOk result (λ n. checked bytes.now ≡ Ok n) }
     ensures wrong { IfErr result (λ f. f.kind ≢ CheckKind.Memory → checked bytes.now ≡ Err f) }
@@ -26,7 +27,7 @@ pub fn check(alloc: Global, bytes: &[u8]) -> Result<u64, CheckFault>
     checker.count_in(bytes)
 }
 
-/// A record that is checked as it comes. What is kept of it follows the channel, not how long the record is.
+/// A record that is checked as it comes. Its memory depends on the channel, not on the length of the record.
 #[derive(Drop)]
 pub struct Checker {
     pub(crate) alloc: Global,
@@ -43,14 +44,14 @@ impl Model for Checker {
 }
 
 impl Checker {
-    /// No chunk has come.
+    /// Returns a checker to which no chunk has come.
     pub fn new(alloc: Global) -> Checker
         ensures { result ≡ None }
     {
         Checker { alloc, chain: None }
     }
 
-    /// Goes through lines, which come next and the last of which ends a chunk; none where it stands between chunks.
+    /// Checks the lines that come next, the last of which ends a chunk; there may be none if the checker is between chunks.
     pub fn read(&mut self, bytes: &[u8]) -> Result<(), CheckFault>
         ensures right { (p : Position) → IsAt self.old p
             → OnOk result ((now : Option spec.Chain) × IsAt self.new (Between now) × (checked_from p (pieces_at 10 bytes.now) ≡ Ok now)) }
@@ -65,7 +66,7 @@ impl Checker {
         Ok(())
     }
 
-    /// How many entries a file of chunks has, before which nothing came.
+    /// Returns how many entries a file of chunks has, before which nothing came.
     fn count_in(&mut self, bytes: &[u8]) -> Result<u64, CheckFault>
         requires { self.old ≡ None }
         ensures value { IfOk result (λ n. checked bytes.now ≡ Ok n) }
@@ -76,7 +77,7 @@ impl Checker {
         self.count()
     }
 
-    /// How many entries the chunks have so far. A record has one chunk or more.
+    /// Returns how many entries the chunks have so far. A record has one chunk or more: before the first, it is wrong.
     pub fn count(&self) -> Result<u64, CheckFault>
         ensures { (p : Position) → IsAt self.now p → result ≡ counted (Ok (so_far p)) }
     {
@@ -89,7 +90,7 @@ impl Checker {
         }
     }
 
-    /// How many entries the chunks have so far; 0 where there is none.
+    /// Returns how many entries the chunks have so far; 0 before the first chunk.
     pub fn entries(&self) -> u64
         ensures value { (p : Position) → IsAt self.now p → result ≡ spec.entries (so_far p) }
         ensures few { result ≤ 2 ^ 63 }
@@ -97,8 +98,8 @@ impl Checker {
         entries_of(&self.chain)
     }
 
-    /// Goes over the next lines, and answers what they tell and what stands after them: the first three of a chunk, or, inside of one, one line. None
-    /// where no text is left between chunks: then nothing changes.
+    /// Checks the next lines, the first three of a chunk or, inside a chunk, one line, and returns what they say and what follows them.
+    /// Returns `None` if no text is left between chunks: then nothing changes.
     pub fn next<'a>(&mut self, text: &'a [u8]) -> Result<Option<(Told<'a>, &'a [u8])>, CheckFault>
         ensures right { (p : Position) → IsAt self.old p → IfOk result (λ r. MatchOption r (IsOver self.old self.new p text.now)
             (λ s. Moves self.new p s.0 (pieces_at 10 text.now) (pieces_at 10 s.1.now))) }
@@ -119,7 +120,7 @@ impl Checker {
     }
 }
 
-/// Goes over the next lines: the first three of a chunk, or, inside of one, one line.
+/// Checks the next lines: the first three of a chunk or, inside a chunk, one line.
 fn go_over<'a>(
     alloc: Global,
     chain: &mut Option<Chain>,

@@ -4,7 +4,7 @@ ghost use Rattle.ll_attr.specs.Words.{pieces_at};
 ghost use Rattle.ll_check.specs.Found.{IsAt, IsOf};
 ghost use Rattle.ll_check.specs.Joined.{IsJoined};
 ghost use Rattle.ll_check.specs.Steps.{Moves, in_full};
-ghost use Rattle.ll_enter.specs.Full.{without_item};
+ghost use Rattle.ll_entry_check.specs.Full.{without_item};
 ghost use Rattle.ll_entry.specs.Chain as spec;
 ghost use Rattle.ll_entry.specs.Chain.{Inside, checked_from, joined, wrong};
 ghost use Rattle.ll_entry.specs.Entries.{entry_in};
@@ -12,11 +12,11 @@ ghost use Rattle.ll_entry.specs.Entries.{entry_in};
 use crate::chain::Chain;
 use crate::lines::chunk_line;
 use crate::told::Told;
-use ll_enter::{FullEntry, enter};
 use ll_entry::{CheckKind, Recorded};
+use ll_entry_check::{FullEntry, enter};
 use std::alloc::Global;
 
-/// Goes over the next line of a chunk, and answers what it tells and what stands after it.
+/// Checks the next line of a chunk, and returns what it says and what follows it.
 pub(crate) fn go_on<'a>(
     alloc: Global,
     chain: &mut Chain,
@@ -40,7 +40,7 @@ pub(crate) fn go_on<'a>(
     }
 }
 
-/// Takes the event that a line's entry tells, where the entry is right, and answers what the entry is in full.
+/// Takes the event of a line's entry, if the entry is right, and returns the entry in full.
 fn take(alloc: Global, chain: &mut Chain, line: &str) -> Result<FullEntry, CheckKind>
     ensures right { (ch : spec.Chain) → IsOf chain.old ch → IfOk result (λ entry. IsJoined chain.new (joined ch (entry_in ch.version ch.settings line.now))
         × (option_map without_item (in_full ch (entry_in ch.version ch.settings line.now)) ≡ Some entry)) }

@@ -1,4 +1,4 @@
-//! Whether what every player was told was right: records of a channel are checked against the definitions over all its events.
+//! Whether every player got the right reply: records of a channel are checked against the definitions over all its events.
 #![tactic(auto)]
 
 mod answer;

@@ -1,4 +1,4 @@
-//! Lines of bytes.
+//! How a text is cut into lines.
 ghost use Rattle.std.specs.Prelude.{◌≡◌, ◌<◌, ◌∷◌, [], IfErr, IfOk, IfSome, MatchOption, Some, length, option_map};
 ghost use Rattle.ll_attr.specs.Words.{pieces_at};
 ghost use Rattle.ll_entry.specs.Chain as spec;
@@ -9,7 +9,7 @@ use ll_entry::{CheckKind, LAST_LINE};
 use memchr::memchr;
 use std::str;
 
-/// The first line without its end, and what stands after it; none where no line ends.
+/// Returns the first line without its end, and what follows it; `None` if no line ends.
 pub(crate) fn cut_line(bytes: &[u8]) -> Option<(&[u8], &[u8])>
     ensures parts { MatchOption result (pieces_at 10 bytes.now ≡ bytes.now ∷ [])
         (λ c. pieces_at 10 bytes.now ≡ c.0.now ∷ pieces_at 10 c.1.now) }
@@ -19,7 +19,7 @@ pub(crate) fn cut_line(bytes: &[u8]) -> Option<(&[u8], &[u8])>
     Some((&bytes[..end], &bytes[end + 1..]))
 }
 
-/// The text of the next line of a chunk after its first three, or none for its last line; and what stands after it.
+/// Returns the text of the next line of a chunk after its first three, `None` for its last line; and what follows the line.
 pub(crate) fn chunk_line(bytes: &[u8]) -> Result<(Option<&str>, &[u8]), CheckKind>
     ensures right { IfOk result (λ r. MatchOption r.0 (IsLast (pieces_at 10 bytes.now) (pieces_at 10 r.1.now))
         (λ line. IsText line.now (pieces_at 10 bytes.now) (pieces_at 10 r.1.now))) }
@@ -38,7 +38,7 @@ pub(crate) fn chunk_line(bytes: &[u8]) -> Result<(Option<&str>, &[u8]), CheckKin
     }
 }
 
-/// A line that is text.
+/// Returns a line as text; `None` if it isn't UTF-8.
 pub(crate) fn text_in(line: &[u8]) -> Option<&str>
     ensures { option_map (λ t. t.now) result ≡ spec.text_in line.now }
 {

@@ -1,4 +1,4 @@
-//! The replies that the entries of a record bring.
+//! The replies of a record's entries.
 ghost use Rattle.std.specs.Prelude.{◌≡◌, ◌≢◌, ◌+◌, IfErr, IfOk, MatchOption, Ok, Some, Err, true};
 ghost use Rattle.ll_attr.specs.Words.{pieces_at};
 ghost use Rattle.ll_check.specs.EntryReplies.{Brings, BringsNone, IsBrought, brought_in};
@@ -10,23 +10,23 @@ ghost use Rattle.ll_entry.specs.Entries.{entry_in};
 use crate::chain::{Chain, is_inside};
 use crate::checker::Checker;
 use crate::lines::chunk_line;
-use ll_enter::bring;
 use ll_entry::{CheckFault, CheckKind, Recorded};
+use ll_entry_check::bring;
 use ll_verdict::Reply;
 use std::alloc::Global;
 
-/// An entry's line, and the reply that the entry brings.
+/// An entry's line, and the entry's reply.
 #[derive(Drop)]
 pub struct EntryReply<'a> {
     /// The line.
     pub line: &'a str,
-    /// What a request gets at once, or what is handed out to it; none where it brings none.
+    /// What a request gets at once, or what is handed out to it; `None` if the entry has no reply.
     pub reply: Option<Reply>,
 }
 
 impl Checker {
-    /// What the next entry brings, where it is right; none where no entry comes next: then nothing changes. What comes after the entry is for another
-    /// checker.
+    /// Returns the line and the reply of the next entry, if it is right; `None` if no entry comes next: then nothing changes. What comes
+    /// after the entry is for another checker.
     pub fn reply<'a>(&mut self, text: &'a [u8]) -> Result<Option<EntryReply<'a>>, CheckFault>
         ensures right { (p : Position) → IsAt self.old p → IfOk result (λ r. MatchOption r (BringsNone self.old self.new p (pieces_at 10 text.now))
             (λ b. Brings p b.line.now b.reply (pieces_at 10 text.now))) }
@@ -43,7 +43,7 @@ impl Checker {
     }
 }
 
-/// What the next entry brings; none where no entry comes next.
+/// Returns the line and the reply of the next entry; `None` if no entry comes next.
 fn next_reply<'a>(
     alloc: Global,
     chain: &mut Option<Chain>,
@@ -63,7 +63,7 @@ fn next_reply<'a>(
     }
 }
 
-/// What the entry of a chunk's next line brings; none for its last line.
+/// Returns the line and the reply of the next entry of a chunk; `None` at its last line.
 fn reply_of<'a>(
     alloc: Global,
     chain: &mut Chain,
@@ -85,7 +85,7 @@ fn reply_of<'a>(
     }
 }
 
-/// The reply that the entry of a line brings.
+/// Returns the reply of a line's entry.
 fn reply_to(alloc: Global, chain: &mut Chain, line: &str) -> Result<Option<Reply>, CheckKind>
     ensures right { (ch : spec.Chain) → IsOf chain.old ch → IfOk result (λ r. ((now : spec.Chain) × (joined ch (entry_in ch.version ch.settings line.now) ≡ Ok now))
         × (r ≡ brought_in ch (entry_in ch.version ch.settings line.now))) }

@@ -1,14 +1,14 @@
-//! What the lines of a record tell, one after another.
-use ll_enter::FullEntry;
+//! What the lines of a record say, one after another.
 use ll_entry::Version;
+use ll_entry_check::FullEntry;
 
-/// What the next lines of a record tell, where they are right.
+/// What the next lines of a record say, if they are right.
 #[derive(Drop)]
 pub enum Told<'a> {
-    /// A chunk begins, with this settings line, after so many entries of its chain.
+    /// The beginning of a chunk, with its settings line and the number of its chain's entries before it.
     Begun(&'a str, u64),
-    /// An entry in this format, of this line, and what it tells in full.
+    /// An entry: the format of its line, the line, and the entry in full.
     Entry(Version, &'a str, FullEntry),
-    /// The chunk has its last line.
+    /// The last line of a chunk.
     Ended,
 }

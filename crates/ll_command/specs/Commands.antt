@@ -1,4 +1,4 @@
--- What the program's words ask it to do.
+-- The command that the program's words spell.
 use Rattle.std.specs.Prelude.{ℕ, ◌+◌, ◌-◌, ◌/◌, ◌^◌, ◌&&◌, ◌==◌, Bool, true, false, max, min, nat_le, List, [], ◌∷◌, Option, Some, None, Result, Ok, Err, bytes_eq, codes, length, not, option_and_then, if◌then◌else◌}
 use Rattle.std.specs.Option.{unwrap_or}
 use Rattle.ll_attr.specs.Words.{after}
@@ -19,20 +19,20 @@ pub data Call : Type 0 where
   Check : List ℕ → Call
   -- write the record in a file in format 2
   Upgrade : List ℕ → Call
-  -- count what the record in a file tells
+  -- summarize the record in a file
   Summarize : List ℕ → Call
-  -- tell the entry of this number of the record in a file
+  -- explain one entry of the record in a file, by its number
   Explain : List ℕ → ℕ → Call
-  -- serve the channels that a settings file tells
+  -- serve the channels of a settings file
   Serve : List ℕ → Call
-  -- publish at an address, in a channel and a rendition, what an encoder writes to standard input
+  -- publish what an encoder writes to standard input: at an address, in a channel and a rendition, by a plan
   Push : List ℕ → List ℕ → List ℕ → Plan → Call
 
--- the command of this name that names no file
+-- the command `name` without a file
 abbrev pub alone : List ℕ → Result Call Fault
 alone name = if bytes_eq name (codes "replay") then Ok Replay else Err Usage
 
--- the command of this name that names a file
+-- the command `name` with one file
 abbrev pub with_file : List ℕ → List ℕ → Result Call Fault
 with_file name file =
     if bytes_eq name (codes "check") then Ok (Check file)
@@ -45,22 +45,22 @@ abbrev pub explain_by : List ℕ → Option ℕ → Result Call Fault
 explain_by file (Some entry) = Ok (Explain file entry)
 explain_by file None = Err Usage
 
--- the command of this name that names two files, or a file and the number of an entry
+-- the command `name` with two files, or with a file and the number of an entry
 abbrev pub with_two : List ℕ → List ℕ → List ℕ → Result Call Fault
 with_two name file other =
     if bytes_eq name (codes "apply") then Ok (Apply file other)
     else if bytes_eq name (codes "explain") then explain_by file (count.read other)
     else Err Usage
 
--- the number that stands in a word after this key
+-- the number in a word after `key`
 abbrev pub setting : List ℕ → List ℕ → Option ℕ
 setting key word = option_and_then count.read (after key word)
 
--- where nothing else is said a segment is at most half as long again as it is to be, and a part may be one
+-- the longest duration of a segment by default: half as long again as it is to be, and no less than a part
 abbrev pub usual_most : ℕ → ℕ → ℕ
 usual_most part segment = max part (min (segment + segment / 2) (2 ^ 64 - 1))
 
--- the number after this key, where the first word has one, and the words that are left
+-- the number that the first word has, if it has one, and the words that are left
 abbrev pub numbered_by : List ℕ → List (List ℕ) → Option ℕ → Option ℕ × List (List ℕ)
 numbered_by word words (Some number) = (Some number, words)
 numbered_by word words None = (None, word ∷ words)
@@ -69,19 +69,19 @@ abbrev pub numbered : List ℕ → List (List ℕ) → Option ℕ × List (List 
 numbered key [] = (None, [])
 numbered key (word ∷ words) = numbered_by word words (setting key word)
 
--- whether the first word is this one, and the words that are left
+-- whether the first word is `flag`, and the words that are left
 abbrev pub flagged : List ℕ → List (List ℕ) → Bool × List (List ℕ)
 flagged flag [] = (false, [])
 flagged flag (word ∷ words) = if bytes_eq word flag then (true, words) else (false, word ∷ words)
 
--- `most=` with a number, `ahead=no`, `retry=` with a number and `end`, in this order; each of them may be left out
+-- `most=` with a number, `ahead=no`, `retry=` with a number and `end`, in this order; each is optional
 pub record Options : Type 0 where
   pub most : Option ℕ
   pub hasty : Bool
   pub retry : Option ℕ
   pub ends : Bool
 
--- where no words are left
+-- the options, if no words are left after them
 abbrev pub options_by : Option ℕ → Bool → Option ℕ → Bool × List (List ℕ) → Option Options
 options_by most hasty retry ends = if length ends.1 == 0 then Some (record { most = most; hasty = hasty; retry = retry; ends = ends.0 }) else None
 
@@ -92,7 +92,7 @@ options words =
     let retry = numbered (codes "retry=") hasty.1 in
     options_by most.0 hasty.0 retry.0 (flagged (codes "end") retry.1)
 
--- no segment is shorter than a part; a lost connection is tried again for a minute, where nothing else is said
+-- the plan, if the longest segment is no shorter than a part; a lost connection is tried again for 60 seconds by default
 abbrev pub plan_by : ℕ → ℕ → ℕ → Options → Option Plan
 plan_by part segment most o =
     if nat_le part most then
@@ -109,7 +109,7 @@ plan_of (Some part) (Some segment) None = None
 plan_of (Some part) None options = None
 plan_of None segment options = None
 
--- how an input is published, as words say: `part=` and `segment=`, and then options
+-- how an encoder's output is published: `part=` and `segment=` with microseconds, and then options
 abbrev pub plan : List ℕ → List ℕ → List (List ℕ) → Option Plan
 plan part segment words = plan_of (setting (codes "part=") part) (setting (codes "segment=") segment) (options words)
 
@@ -117,16 +117,16 @@ abbrev pub push_by : List ℕ → List ℕ → List ℕ → Option Plan → Resu
 push_by address channel rendition (Some plan) = Ok (Push address channel rendition plan)
 push_by address channel rendition None = Err Usage
 
--- publishing at an address, where the channel and the rendition are names
+-- the command that publishes at an address, if the channel and the rendition are names
 abbrev pub push : List ℕ → List ℕ → List ℕ → Option Plan → Result Call Fault
 push address channel rendition plan =
     if is_name channel && is_name rendition then push_by address channel rendition plan else Err Usage
 
--- the command of this name that names an address, a channel and a rendition, and how an input is published there
+-- the command `name` with an address, a channel, a rendition and a plan
 abbrev pub with_plan : List ℕ → List ℕ → List ℕ → List ℕ → Option Plan → Result Call Fault
 with_plan name address channel rendition plan = if bytes_eq name (codes "push") then push address channel rendition plan else Err Usage
 
--- the first word names the program; words of no such form are wrong usage
+-- the command of all words, the first of which names the program; other words are wrong usage
 abbrev pub command_of : List (List ℕ) → Result Call Fault
 command_of (program ∷ name ∷ []) = alone name
 command_of (program ∷ name ∷ file ∷ []) = with_file name file

@@ -1,4 +1,4 @@
--- Exit statuses of a program that did not do what it was called to do.
+-- The exit statuses of a program that didn't do what it was called to do.
 use Rattle.std.specs.Prelude.{ℕ}
 use Rattle.ll_apply.specs.declared.fault.ApplyFault.{ApplyFault}
 use Rattle.ll_apply.specs.declared.fault.ApplyFault.TheVariants as apply
@@ -9,7 +9,7 @@ use Rattle.ll_replay.specs.declared.outcome.RunFault.TheVariants as run
 use Rattle.ll_command.specs.declared.fault.Fault.{Fault}
 use Rattle.ll_command.specs.declared.fault.Fault.TheVariants.{Usage, Read, Write, Memory, Replay, BadLine, NoEntry, Listen, Clock, Apply, Push}
 
--- of a script
+-- the status of a script's fault
 abbrev pub replay_status : RunFault → ℕ
 replay_status (run.BadLine n) = 3
 replay_status (run.LineTooLong n) = 3
@@ -18,14 +18,14 @@ replay_status run.Write = 4
 replay_status run.Endless = 4
 replay_status run.Memory = 4
 
--- of a delta update
+-- the status of a delta update's fault
 abbrev pub apply_status : ApplyFault → ℕ
 apply_status apply.BadBase = 3
 apply_status apply.BadDelta = 3
 apply_status (apply.NotRecent number) = 3
 apply_status apply.Memory = 4
 
--- of publishing
+-- the status of a fault of publishing
 abbrev pub push_status : PushFault → ℕ
 push_status (push.Input fault) = 3
 push_status push.Read = 4

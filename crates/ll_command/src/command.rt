@@ -1,4 +1,4 @@
-//! The commands that the program obeys.
+//! Parses the program's words as a command.
 ghost use Rattle.std.specs.Prelude.{◌≡◌, MatchResult, Ok, Err};
 ghost use Rattle.ll_command.specs.Commands as spec;
 ghost use Rattle.ll_command.specs.Commands.{call_of, command_of};
@@ -9,47 +9,47 @@ use ll_attr::Text;
 use ll_format::number;
 use ll_item::is_name;
 
-/// What the program was called to do.
+/// The command that the program was called with.
 pub enum Command<'a> {
-    /// Nothing more: the script is on standard input.
+    /// `replay`: runs the script on standard input.
     Replay,
-    /// A delta update is to be applied.
+    /// `apply`: applies a delta update to a playlist.
     Apply {
         /// The name of the earlier playlist's file.
         base: &'a Text,
         /// The name of the delta update's file.
         delta: &'a Text,
     },
-    /// The name of a file: the record of a channel.
+    /// `check`: checks the record in the file of this name.
     Check(&'a Text),
-    /// The name of a file: the record of a channel, to be written in format 2.
+    /// `upgrade`: writes the record in the file of this name in format 2.
     Upgrade(&'a Text),
-    /// The name of a file: the record of a channel, of which is to be told how much of what there is.
+    /// `explain` with a file alone: summarizes the record in the file of this name.
     Summarize(&'a Text),
-    /// An entry of a record is to be told.
+    /// `explain` with a number: explains one entry of a record.
     Explain {
         /// The name of the record's file.
         record: &'a Text,
         /// The number of the entry.
         entry: u64,
     },
-    /// The name of a file: the settings.
+    /// `serve`: serves the channels of the settings file of this name.
     Serve(&'a Text),
-    /// What an encoder writes to standard input is to be published.
+    /// `push`: publishes what an encoder writes to standard input.
     Push {
-        /// Where publishers come.
+        /// The address at which the origin listens for publishers.
         address: &'a Text,
         /// The name of a channel.
         channel: &'a Text,
         /// The name of one of its renditions.
         rendition: &'a Text,
-        /// How it is published.
+        /// How the encoder's output is published.
         plan: Plan,
     },
 }
 
 impl<'a> Command<'a> {
-    /// The command that the program's words spell, the first of which names the program.
+    /// Parses the program's words, the first of which names the program. Other words are `Usage`.
     pub fn of(words: &'a [Text]) -> Result<Command<'a>, Fault>
         ensures { MatchResult result (λ c. command_of words.now ≡ Ok (call_of c)) (λ f. command_of words.now ≡ Err f) }
     {
@@ -74,7 +74,7 @@ impl<'a> Command<'a> {
         }
     }
 
-    /// Returns the command of this `name` that names an address, a channel and a rendition, and how an input is published there.
+    /// Returns the command `name` with an address, a channel, a rendition and a plan: `push`.
     fn with_plan(
         name: &Text,
         address: &'a Text,
@@ -91,7 +91,7 @@ impl<'a> Command<'a> {
         }
     }
 
-    /// Publishing at an address, where the channel and the rendition are names.
+    /// Returns the command that publishes at `address`, if `channel` and `rendition` are names and there is a plan.
     fn push(
         address: &'a Text,
         channel: &'a Text,
@@ -114,7 +114,7 @@ impl<'a> Command<'a> {
         }
     }
 
-    /// The command of this name that names no file.
+    /// Returns the command `name` without a file.
     fn alone(name: &Text) -> Result<Command<'a>, Fault>
         ensures { MatchResult result (λ c. spec.alone name.now ≡ Ok (call_of c)) (λ f. spec.alone name.now ≡ Err f) }
     {
@@ -125,7 +125,7 @@ impl<'a> Command<'a> {
         }
     }
 
-    /// The command of this name that names one file.
+    /// Returns the command `name` with one file.
     fn with_file(name: &Text, file: &'a Text) -> Result<Command<'a>, Fault>
         ensures { MatchResult result (λ c. spec.with_file name.now file.now ≡ Ok (call_of c)) (λ f. spec.with_file name.now file.now ≡ Err f) }
     {
@@ -142,7 +142,7 @@ impl<'a> Command<'a> {
         }
     }
 
-    /// The command of this name that names two files, or a file and the number of an entry.
+    /// Returns the command `name` with two files, or with a file and the number of an entry.
     fn with_two(name: &Text, file: &'a Text, other: &'a Text) -> Result<Command<'a>, Fault>
         ensures { MatchResult result (λ c. spec.with_two name.now file.now other.now ≡ Ok (call_of c)) (λ f. spec.with_two name.now file.now other.now ≡ Err f) }
     {

@@ -1,3 +1,4 @@
+//! Why the program didn't do what it was called to do, and its exit statuses.
 ghost use Rattle.std.specs.Prelude.{◌≡◌, ◌≢◌};
 ghost use Rattle.ll_command.specs.Status.{status_of};
 ghost use Rattle.ll_command.specs.Status as spec;
@@ -11,10 +12,10 @@ use thiserror::Error;
 /// Why the program didn't do what it was called to do.
 #[derive(Clone, Copy, Debug, Error)]
 pub enum Fault {
-    /// Wrong usage: it was called with other words.
+    /// Wrong usage: the words aren't a command.
     #[error("usage")]
     Usage,
-    /// A file could not be read.
+    /// A file couldn't be read.
     #[error("Read")]
     Read,
     /// Standard output took no more.
@@ -23,31 +24,31 @@ pub enum Fault {
     /// Out of memory for the arguments or a file.
     #[error("Memory")]
     Memory,
-    /// A script was not run to its end.
+    /// A script wasn't run to its end.
     #[error("{0}")]
     Replay(RunFault),
-    /// A line of the settings that can't stand in its place.
+    /// The number of a line of the settings file that isn't allowed in its place.
     #[error("BadLine {0}")]
     BadLine(u64),
     /// A record has no entry of the number that was asked for.
     #[error("NoEntry")]
     NoEntry,
-    /// An address could not be listened at.
+    /// The program couldn't listen at an address.
     #[error("Listen")]
     Listen,
-    /// The clock could not be read.
+    /// The clock couldn't be read.
     #[error("Clock")]
     Clock,
-    /// There is no full playlist.
+    /// A delta update couldn't be applied.
     #[error("{0}")]
     Apply(ApplyFault),
-    /// What an encoder wrote isn't published, or not all of it.
+    /// Not all of an encoder's output was published.
     #[error("{0}")]
     Push(PushFault),
 }
 
 impl Fault {
-    /// The exit status: 2 for wrong usage, 3 for input to blame, 4 for any other.
+    /// Returns the exit status: 2 for wrong usage, 3 if the input is to blame, 4 for any other fault.
     pub fn status(self) -> u8
         ensures { result ≡ status_of self }
     {
@@ -62,7 +63,7 @@ impl Fault {
     }
 }
 
-/// The fault of an error of std: out of memory is always told as such.
+/// Returns the fault of an error of std: `Memory` if `kind` is `OutOfMemory`, and else `otherwise`.
 pub fn fault_of(kind: ErrorKind, otherwise: Fault) -> Fault
     ensures memory { kind ≡ ErrorKind.OutOfMemory → result ≡ Fault.Memory }
     ensures other { kind ≢ ErrorKind.OutOfMemory → result ≡ otherwise }
@@ -74,7 +75,7 @@ pub fn fault_of(kind: ErrorKind, otherwise: Fault) -> Fault
     }
 }
 
-/// The exit status of a script: 3 for a line to blame, 4 for any other fault.
+/// Returns the exit status of a script: 3 if a line is to blame, 4 for any other fault.
 fn replay_status(fault: RunFault) -> u8
     ensures { result ≡ spec.replay_status fault }
 {
@@ -84,7 +85,7 @@ fn replay_status(fault: RunFault) -> u8
     }
 }
 
-/// The exit status of a delta update: 3 for a file to blame, 4 for out of memory.
+/// Returns the exit status of a delta update: 3 if a file is to blame, 4 if out of memory.
 fn apply_status(fault: ApplyFault) -> u8
     ensures { result ≡ spec.apply_status fault }
 {
@@ -94,7 +95,7 @@ fn apply_status(fault: ApplyFault) -> u8
     }
 }
 
-/// The exit status of publishing: 3 for an encoder's bytes or what else publishes there to blame, 4 for any other fault.
+/// Returns the exit status of publishing: 3 if the encoder's bytes or where the rendition stands is to blame, 4 for any other fault.
 fn push_status(fault: PushFault) -> u8
     ensures { result ≡ spec.push_status fault }
 {

@@ -1,4 +1,4 @@
-//! What the program's words ask it to do, what of that needs nothing but bytes, and with which status the program ends.
+//! The program's commands: parses its words, does what needs only bytes, and gives the exit status of each fault.
 #![tactic(auto)]
 
 mod command;

@@ -1,4 +1,4 @@
-//! How an encoder's output is published.
+//! Parses how an encoder's output is published.
 ghost use Rattle.std.specs.Prelude.{◌≡◌, codes};
 ghost use Rattle.ll_command.specs.Commands as spec;
 
@@ -6,23 +6,23 @@ use ll_attr::{Text, after};
 use ll_format::number;
 use ll_parts::Lengths;
 
-/// How long a connection that was lost is tried again, in seconds, if nothing else is said.
+/// How long a lost connection is tried again by default, in seconds.
 const RETRY: u64 = 60;
 
 /// How an encoder's output is published.
 #[derive(Clone, Copy, Debug)]
 pub struct Plan {
-    /// How long parts and segments are.
+    /// The durations of parts and segments.
     pub lengths: Lengths,
-    /// How long a connection that was lost is tried again, in seconds.
+    /// How long a lost connection is tried again, in seconds.
     pub retry: u64,
     /// Whether the rendition is ended after the input's last part.
     pub ends: bool,
 }
 
 impl Plan {
-    /// Returns the plan that these words say: `part=` and `segment=` with a number of microseconds, then perhaps `most=` with one, `ahead=no`, `retry=` with a number of seconds, and
-    /// `end`, in this order.
+    /// Parses a plan: `part=` and `segment=` with a number of microseconds, and then the options `most=` with such a number, `ahead=no`,
+    /// `retry=` with a number of seconds, and `end`, in this order. Returns `None` for other words, or if `most` is shorter than a part.
     pub(crate) fn of(part: &Text, segment: &Text, words: &[Text]) -> Option<Plan>
         ensures { result ≡ spec.plan part.now segment.now words.now }
     {
@@ -54,7 +54,7 @@ impl Plan {
     }
 }
 
-/// Returns how long a segment may be if nothing else is said: half as long again as it is to be, and no less than a part.
+/// Returns the longest duration of a segment by default: half as long again as `segment`, and no less than `part`.
 fn usual_most(part: u64, segment: u64) -> u64
     ensures { result ≡ spec.usual_most part segment }
 {
@@ -84,7 +84,7 @@ fn flagged<'a>(flag: &str, words: &'a [Text]) -> (bool, &'a [Text])
     }
 }
 
-/// Returns the number that stands in `word` after `key`.
+/// Returns the number in `word` after `key`.
 fn setting(key: &str, word: &str) -> Option<u64>
     ensures { result ≡ spec.setting key.now word.now }
 {

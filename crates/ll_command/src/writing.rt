@@ -1,4 +1,4 @@
-//! What the program writes to standard output.
+//! Writes to standard output what the program's commands result in.
 ghost use Rattle.std.specs.Prelude.{◌≡◌, ◌≢◌, List, ℕ, Ok, Err, IfErr, IfOk, IsErrOf, IsOk, OnOk, is_ok};
 ghost use Rattle.std.specs.Io.KnownBytes.{Appends};
 ghost use Rattle.ll_apply.specs.Texts.{applied_text};
@@ -18,7 +18,7 @@ use ll_explain::{ExplainFault, explain, summarize, summary_text, upgrade};
 use std::alloc::{AllocError, Global};
 use std::io::Write;
 
-/// Applies a delta update to a playlist, and writes the full playlist.
+/// Applies the delta update `delta` to the playlist `base`, and writes the full playlist.
 pub fn write_applied<W: Write>(
     alloc: Global,
     base: &[u8],
@@ -36,7 +36,7 @@ pub fn write_applied<W: Write>(
     }
 }
 
-/// Checks a record, writes what came of it, and answers whether the record is right.
+/// Checks a record, writes its number of entries or how it isn't right, and returns whether it is right.
 pub fn write_checked<W: Write>(alloc: Global, chunks: &[u8], out: &mut W) -> Result<bool, Fault>
     ensures written { IfOk result (λ right. (right ≡ is_ok (checked chunks.now)) × Appends (W.contents out.old) (W.contents out.new) (spec.answer_line (checked chunks.now))) }
     ensures kinds { IfErr result (λ f. f ≢ Fault.Write → f ≡ Fault.Memory) }
@@ -44,7 +44,7 @@ pub fn write_checked<W: Write>(alloc: Global, chunks: &[u8], out: &mut W) -> Res
     write_answer(alloc, check(alloc, chunks), out)
 }
 
-/// Writes a record in format 2, or what came of it where it isn't right, and answers whether the record is right.
+/// Writes a record in format 2, or how it isn't right, and returns whether it is right.
 pub fn write_upgraded<W: Write>(alloc: Global, chunks: &[u8], out: &mut W) -> Result<bool, Fault>
     ensures written { IfOk result (λ right. (right ≡ is_ok (checked chunks.now))
         × Appends (W.contents out.old) (W.contents out.new) (spec.upgrade_answer (checked chunks.now) (upgraded chunks.now))) }
@@ -59,7 +59,8 @@ pub fn write_upgraded<W: Write>(alloc: Global, chunks: &[u8], out: &mut W) -> Re
     }
 }
 
-/// Writes what a record tells of the entry of this number, or how the record isn't right up to it, and answers whether it is.
+/// Writes the explanation of entry `entry` of a record, or how the record isn't right up to it, and returns whether it is right up to it.
+/// Fails with `NoEntry` if there is no such entry.
 pub fn write_explained<W: Write>(
     alloc: Global,
     chunks: &[u8],
@@ -83,7 +84,7 @@ pub fn write_explained<W: Write>(
     }
 }
 
-/// Writes how much of what there is in each chain of a record, or how the record isn't right, and answers whether it is.
+/// Writes a summary of each chain of a record, or how the record isn't right, and returns whether it is right.
 pub fn write_summary<W: Write>(alloc: Global, chunks: &[u8], out: &mut W) -> Result<bool, Fault>
     ensures right { IfOk result (λ right. right ≡ is_ok (checked chunks.now)) }
     ensures kinds { IfErr result (λ f. f ≢ Fault.Write → f ≡ Fault.Memory) }
@@ -100,7 +101,7 @@ pub fn write_summary<W: Write>(alloc: Global, chunks: &[u8], out: &mut W) -> Res
     }
 }
 
-/// Writes what came of a record, and answers whether the record is right.
+/// Writes the line of a record's check, and returns whether the record is right.
 fn write_answer<W: Write>(
     alloc: Global,
     answer: Result<u64, CheckFault>,
@@ -126,7 +127,7 @@ fn write_answer<W: Write>(
     Ok(answer.is_ok())
 }
 
-/// Writes all bytes.
+/// Writes `bytes`, and flushes.
 fn write_out<W: Write>(bytes: &[u8], out: &mut W) -> Result<(), Fault>
     ensures written { OnOk result (Appends (W.contents out.old) (W.contents out.new) bytes.now) }
     ensures fault { IfErr result (λ f. f ≡ Fault.Write) }

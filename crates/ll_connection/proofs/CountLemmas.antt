@@ -1,13 +1,13 @@
--- How many requests of a connection wait, and that the one found by its owner is the one under its ticket.
+-- The number of requests of a connection that wait, and that the one found by its owner is the one under its ticket.
 use Rattle.std.proofs.Common.{◌≡◌, ℕ, ◌+◌, ◌==◌, ◌&&◌, ◌||◌, List, [], ◌∷◌, ◌++◌, Bool, true, false, cond, Option, Some, None, length, length-append, filter, map, if◌then◌else◌, refl, ap, ap₂, ◌∙◌, sym, true≢false, arith}
 use Rattle.std.proofs.lemmas.List.Elements.{filter-append}
-use Rattle.ll_rooms.specs.Waits.{is_of, is_under, under, wait_of, without}
-use Rattle.ll_rooms.specs.declared.owner.Owner.{Owner}
-use Rattle.ll_rooms.specs.declared.owner.Owner.TheVariants.{Connection}
-use Rattle.ll_rooms.specs.declared.wait.Wait.{Wait}
+use Rattle.ll_script_rooms.specs.Waits.{is_of, is_under, under, wait_of, without}
+use Rattle.ll_script_rooms.specs.declared.owner.Owner.{Owner}
+use Rattle.ll_script_rooms.specs.declared.owner.Owner.TheVariants.{Connection}
+use Rattle.ll_script_rooms.specs.declared.wait.Wait.{Wait}
 use Rattle.ll_room.specs.RoomValue.{AreDistinct, among}
-use Rattle.ll_rooms.specs.Kept.{is_in, ticket_of, tickets_at}
-use Rattle.ll_rooms.proofs.TieLemmas.{equal, none_some, same_test, some_is}
+use Rattle.ll_script_rooms.specs.Kept.{is_in, ticket_of, tickets_at}
+use Rattle.ll_script_rooms.proofs.TieLemmas.{equal, none_some, same_test, some_is}
 use Rattle.ll_connection.specs.Met.{waiting_of}
 
 -- ---- how many wait

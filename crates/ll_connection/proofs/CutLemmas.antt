@@ -1,11 +1,11 @@
--- Wherever the bytes of one connection are cut, the same comes of them, and the same is written.
+-- Wherever the bytes of a connection are cut, they have the same effect, and the same is written.
 use Rattle.std.proofs.Common.{◌≡◌, ℕ, zero, suc, ◌⊎◌, inl, inr, List, [], ◌++◌, true, Option, Some, None, refl, ap, ◌∙◌, sym, arith, length, length-append, append_assoc, append-nil, flat_map}
 use Rattle.std.proofs.lemmas.Bool.Decides.{nat_tests}
 use Rattle.std.proofs.lemmas.Grind.{flat_map-append}
 use Rattle.ll_script.specs.Answers.{sent_line}
 use Rattle.ll_session.specs.Talk.{SessionValue, fresh, refusal}
 use Rattle.ll_session.proofs.SplitLemmas.{taking-right}
-use Rattle.ll_rooms.specs.World.{World, repeat}
+use Rattle.ll_script_rooms.specs.World.{World, repeat}
 use Rattle.ll_connection.specs.Laws.{both}
 use Rattle.ll_connection.specs.Turn.{Connections, bytes, bytes_to, left, session_of, turn, with_session}
 use Rattle.ll_connection.specs.Visit.{Visit, arrived, came, enough, hand_all, step}
@@ -25,7 +25,7 @@ module _ (n : ℕ) where
       let right = (taking-right v.session.unread).1 in
       grind (arith, nat_tests, longer, right, append-nil {A = ℕ}, append_assoc {A = List ℕ}, length-append {A = ℕ}, flat_map-append refusal)
 
-  -- a step before more bytes come changes nothing of what comes of all
+  -- a step before more bytes come doesn't change the result
   step_first : (v : Visit) (more : List ℕ) → hand_all n (came n more (step enough n v)) ≡ hand_all n (came n more v)
   step_first v more =
       elim (step_then v more) [
@@ -37,7 +37,7 @@ module _ (n : ℕ) where
   steps_first zero v more = refl
   steps_first (suc k) v more = step_first (repeat (step enough n) k v) more ∙ steps_first k v more
 
--- bytes that come in two pieces, one after the other, are as if they came in one
+-- bytes that come in two pieces have the same effect as in one
 pub pieces : (n : ℕ) (v : Visit) (first second : List ℕ) → arrived [] n second (arrived [] n first v) ≡ arrived [] n (first ++ second) v
 pieces n v first second =
     let c = came n first v in
@@ -83,7 +83,7 @@ module _ (n : ℕ) (all : Connections) where
       let v : Visit = record { session = s; rooms = w } in
       turn_then (arrived [] n first v) second ∙ ap (turn n all) (pieces n v first second)
 
--- the same of all connections, with what is written and how many answers that is
+-- the same of all connections, with what is written and the number of answers
 pub turns : (n : ℕ) (all : Connections) (w : World) (first second : List ℕ)
     → both (bytes [] n first all w) (bytes [] n second (bytes [] n first all w).connections (bytes [] n first all w).rooms) ≡ bytes [] n (first ++ second) all w
 turns n all w first second = turns_by n all w first second (session_of n all) refl

@@ -1,13 +1,13 @@
--- Of each connection as many requests wait as its session has wants out, whatever comes to it.
+-- Each connection has as many waiting requests as its session has wants out, whatever comes to it.
 use Rattle.std.proofs.Common.{◌≡◌, ◌≢◌, ℕ, zero, suc, ◌+◌, ◌≤◌, ◌==◌, List, [], ◌∷◌, Bool, true, false, Option, Some, None, is_some, length, map, if◌then◌else◌, refl, ap, ◌∙◌, sym, subst, true≢false, slice_get, arith}
 use Rattle.std.proofs.lemmas.Bool.Decides.{nat_tests}
 use Rattle.ll_item.specs.Channels.{channel_of_name}
 use Rattle.ll_item.proofs.ChannelLemmas.{named-within}
 use Rattle.ll_directive.specs.Targets.{WantValue}
-use Rattle.ll_rooms.specs.Waits.{is_same, wait_of, without}
-use Rattle.ll_rooms.specs.declared.owner.Owner.{Owner}
-use Rattle.ll_rooms.specs.declared.owner.Owner.TheVariants.{Get, Connection}
-use Rattle.ll_rooms.specs.declared.wait.Wait.{Wait}
+use Rattle.ll_script_rooms.specs.Waits.{is_same, wait_of, without}
+use Rattle.ll_script_rooms.specs.declared.owner.Owner.{Owner}
+use Rattle.ll_script_rooms.specs.declared.owner.Owner.TheVariants.{Get, Connection}
+use Rattle.ll_script_rooms.specs.declared.wait.Wait.{Wait}
 use Rattle.ll_item.specs.Settings.{Configuration}
 use Rattle.ll_verdict.specs.Full.{is_full}
 use Rattle.ll_session.specs.Past.{next_by, next_entries, overflows}
@@ -19,10 +19,10 @@ use Rattle.ll_verdict.specs.Verdict.{at_once, held}
 use Rattle.ll_verdict.specs.declared.reply.Reply.{Reply}
 use Rattle.ll_wire.specs.declared.answer.Answer.{Answer}
 use Rattle.ll_wire.specs.declared.answer.Answer.TheVariants as player
-use Rattle.ll_rooms.specs.World.{Channel, World, all_settings, ask_at, asked_if, close, close_at, close_of, repeat, silent}
-use Rattle.ll_rooms.specs.World as world
-use Rattle.ll_rooms.proofs.TieLemmas.{equal, none_some, same_test, some_is}
-use Rattle.ll_rooms.proofs.WaitLemmas.{IsOpen, ask-open, close-open, has_channel, once_each}
+use Rattle.ll_script_rooms.specs.World.{Channel, World, all_settings, ask_at, asked_if, close, close_at, close_of, repeat, silent}
+use Rattle.ll_script_rooms.specs.World as world
+use Rattle.ll_script_rooms.proofs.TieLemmas.{equal, none_some, same_test, some_is}
+use Rattle.ll_script_rooms.proofs.WaitLemmas.{IsOpen, ask-open, close-open, has_channel, once_each}
 use Rattle.ll_connection.proofs.CountLemmas.{count-less, count-more, is_its_own, none_waits, own_ticket}
 use Rattle.ll_connection.proofs.RoomsLaws.{asked-keeps}
 use Rattle.ll_connection.proofs.TurnLemmas.{found, kept_other}
@@ -35,7 +35,7 @@ same_by : (o : Owner) (n m : ℕ) → is_same o (Connection n) ≡ true → is_s
 same_by (Get id) n m h = cc
 same_by (Connection k) n m h = ap (λ i. i == m) (equal k n h)
 
--- ---- a request of a connection is given up
+-- ---- a request of a connection is closed
 
 closed_counts : (n m : ℕ) (w : World) → IsOpen w
     → waiting_of m (close (Connection n) w).waits + (if is_some (wait_of (Connection n) w.waits) then (if n == m then 1 else 0) else 0) ≡ waiting_of m w.waits
@@ -164,7 +164,7 @@ muted_sound : (es : List Entry) (s : SessionValue) → IsSound s → IsSound (mu
 muted_sound [] s h = h
 muted_sound (e ∷ es) s h = λ shut. refl
 
--- where anything can be taken no want is out
+-- if anything can be taken, no want is out
 muted_out : (es : List Entry) (s : SessionValue) → (es ≢ [] → s.out ≡ None) → (muted_if es s).out ≡ s.out
 muted_out [] s h = refl
 muted_out (e ∷ es) s h = sym (h (λ q. cc))
@@ -179,7 +179,7 @@ taken_none s some = by s.shut s.out some
 
 -- ---- visits
 
--- a connection before the rooms; of each other connection so many wait
+-- a connection and the rooms, in which `others m` requests of each other connection `m` wait
 pub record IsMet (n : ℕ) (others : ℕ → ℕ) (v : Visit) : Type 0 where
   pub rooms : IsOpen v.rooms
   pub own : waiting_of n v.rooms.waits ≡ outs v.session.out
@@ -388,7 +388,7 @@ has_out n all k h = by (session_of n all) refl h
     by (Some None) e h = absurd (omega (arith, h))
     by (Some (Some s)) e h = record { session = s; there = e; is_out = out s.out h }
 
--- the reply is put out, or no memory is found for it; then its next requests are made
+-- the reply is put out, or is out of memory; then the next requests are handed in
 released-met : (lucks : List Luck) (n : ℕ) (others : ℕ → ℕ) (a : Reply) (s : SessionValue) (v : World) → ((found : Bool) → IsMet n others (record { session = put_out found s (player.Reply a); rooms = v }))
     → IsMet n others (released lucks n a (record { session = s; rooms = v }))
 released-met [] n others a s v h = submit-met n others [] (record { session = put_out true s (player.Reply a); rooms = v }) (h true)

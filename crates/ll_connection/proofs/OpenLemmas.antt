@@ -4,8 +4,8 @@ use Rattle.std.specs.Prelude.{flat_map}
 use Rattle.std.proofs.lemmas.Grind.{flat_map-append}
 use Rattle.ll_directive.specs.Targets.{WantValue}
 use Rattle.ll_directive.specs.declared.fault.TargetFault.TheVariants.{NotFound}
-use Rattle.ll_rooms.specs.declared.owner.Owner.{Owner}
-use Rattle.ll_rooms.specs.declared.owner.Owner.TheVariants.{Connection}
+use Rattle.ll_script_rooms.specs.declared.owner.Owner.{Owner}
+use Rattle.ll_script_rooms.specs.declared.owner.Owner.TheVariants.{Connection}
 use Rattle.ll_item.specs.Settings.{Configuration}
 use Rattle.ll_script.specs.Answers.{sent_line}
 use Rattle.ll_item.specs.Channels.{channel_of_name}
@@ -15,10 +15,10 @@ use Rattle.ll_session.specs.Talk.{SessionValue, fed, muted, next_want, pulled}
 use Rattle.ll_wire.specs.declared.answer.Answer.{Answer}
 use Rattle.ll_wire.specs.declared.answer.Answer.TheVariants as player
 use Rattle.ll_verdict.specs.declared.fault.AskFault.TheVariants.{Memory}
-use Rattle.ll_rooms.proofs.SettingsLaws.{ask-keeps, close-keeps}
-use Rattle.ll_rooms.specs.Kept.{Kept, Leads, answers_of, kept_world}
-use Rattle.ll_rooms.specs.World.{World, all_settings, ask, close, count_end, silent}
-use Rattle.ll_rooms.specs.declared.answer.ActAnswer as rooms
+use Rattle.ll_script_rooms.proofs.SettingsLaws.{ask-keeps, close-keeps}
+use Rattle.ll_script_rooms.specs.Kept.{Kept, Leads, answers_of, kept_world}
+use Rattle.ll_script_rooms.specs.World.{World, all_settings, ask, close, count_end, silent}
+use Rattle.ll_script_rooms.specs.declared.answer.ActAnswer as rooms
 use Rattle.ll_connection.proofs.RoomsLaws.{came-keeps, step-keeps}
 use Rattle.ll_connection.proofs.StepLemmas.{hand_all-still, submit-prefixed, prefixed, still_any, still_shut}
 use Rattle.ll_connection.specs.Stands.{AreTold, IsToldVisit, IsVisit, IsStill}
@@ -37,7 +37,7 @@ pub is_unknown : (n : ℕ) (want : WantValue) (w : World) (settings : List Confi
     → (k ≡ kept_world (asked true n want w).rooms) × (Some (player.Target NotFound) ≡ (asked true n want w).answer)
 is_unknown n want w settings k e none r = rw (← e, none) (r, refl)
 
--- no memory was found for it
+-- it is out of memory
 pub is_starved : (n : ℕ) (want : WantValue) (w : World) (settings : List Configuration) (place : ℕ) (c : Configuration) (k : Kept)
     → settings ≡ all_settings w → channel_of_name settings 0 want.channel ≡ Some (place, c) → k ≡ kept_world w
     → (k ≡ kept_world (asked false n want w).rooms) × (Some (player.Unavailable Memory) ≡ (asked false n want w).answer)
@@ -87,7 +87,7 @@ module _ (n : ℕ) (s after : SessionValue) (w : World) (k : Kept) where
   abbrev at : Visit
   at = record { session = s; rooms = w }
 
-  -- no memory is found to take requests
+  -- out of memory for taking requests
   pub step_muted : next_entries s ≢ [] → after ≡ muted s → k ≡ kept_world w → (luck : Luck) × IsVisit after k (step luck n at)
   step_muted some e r = (record { takes = false; asks = true; answers = true }, record { session = e ∙ sym (muted_some (next_entries s) s some); rooms = r })
 
@@ -96,7 +96,7 @@ module _ (n : ℕ) (s after : SessionValue) (w : World) (k : Kept) where
   step_none is e r = (enough, rw is (record { session = e; rooms = r }))
 
   module _ (want : WantValue) (is : next_want s ≡ Some want) where
-    -- it is answered, or no memory is found for its answer
+    -- it is answered, or its answer is out of memory
     pub step_answered : (answer : Answer) (asks found : Bool) → k ≡ kept_world (asked asks n want w).rooms → Some answer ≡ (asked asks n want w).answer
         → after ≡ put_out found (pulled s) answer → (luck : Luck) × IsVisit after k (step luck n at)
     step_answered answer asks found r said e =
@@ -136,7 +136,7 @@ one_less first s t e h = grind arith
 
 -- ---- one step after another
 
--- a connection goes on from a visit: what its remaining requests come to is what that visit comes to
+-- a connection goes on from visit `v`: submitting the requests that are left has the result of submitting those of `v`
 pub record GoesOn (n : ℕ) (channels : List Configuration) (before now : Sent) (session : SessionValue) (kept : Kept) (v : Visit) : Type 0 where
   pub world : World
   pub stands : kept ≡ kept_world world

@@ -1,8 +1,8 @@
--- What requests and closes keep of the channels is kept by all that comes to a connection.
+-- What requests and closes preserve of the channels is preserved by all that comes to a connection.
 use Rattle.std.proofs.Common.{ℕ, zero, suc, List, [], ◌∷◌, Bool, true, false, Option, Some, None, length, fold}
 use Rattle.ll_directive.specs.Targets.{WantValue}
-use Rattle.ll_rooms.specs.declared.owner.Owner.{Owner}
-use Rattle.ll_rooms.specs.declared.owner.Owner.TheVariants as owner
+use Rattle.ll_script_rooms.specs.declared.owner.Owner.{Owner}
+use Rattle.ll_script_rooms.specs.declared.owner.Owner.TheVariants as owner
 use Rattle.ll_item.specs.Settings.{Configuration}
 use Rattle.ll_item.specs.Channels.{channel_of_name}
 use Rattle.ll_session.specs.Past.{overflows}
@@ -10,7 +10,7 @@ use Rattle.ll_session.specs.Talk.{SessionValue, fresh, next_want, pulled}
 use Rattle.ll_verdict.specs.declared.reply.Reply.{Reply}
 use Rattle.ll_wire.specs.declared.answer.Answer.{Answer}
 use Rattle.ll_wire.specs.declared.answer.Answer.TheVariants as player
-use Rattle.ll_rooms.specs.World.{World, all_settings, ask, close, repeat, silent}
+use Rattle.ll_script_rooms.specs.World.{World, all_settings, ask, close, repeat, silent}
 use Rattle.ll_connection.specs.Turn.{Connections, bytes, bytes_to, end, end_of, reply, reply_to, session_of}
 use Rattle.ll_connection.specs.Visit.{Luck, Visit, ask_at, ask_in, asked, answered_by, arrived, came, close_if, enough, hand_all, submit, released, put_out, step, step_by, step_if}
 

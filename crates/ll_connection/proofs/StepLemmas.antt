@@ -1,8 +1,8 @@
--- What a step makes of a visit, and that as many steps as there are bytes are enough. The facts for other files:
+-- How a step changes a visit, and that as many steps as there are bytes are enough. The facts for other files:
 --   is_taken                            what is taken from some bytes and from more, and what is left
 --   prefixed; came-, hand_all-prefixed   answers that were there before stay in front
---   still-shut, still                   where no want is given, a further step changes nothing
---   fewer                               where a want is given, fewer bytes are left
+--   still-shut, still                   if no want is given, a further step changes nothing
+--   fewer                               if a want is given, fewer bytes are left
 --   hand_all-is, -step, -still           steps that are made before all others, or that change nothing
 use Rattle.std.proofs.Common.{◌≡◌, ℕ, zero, suc, ◌+◌, ◌<◌, ◌≤◌, ◌⊎◌, inl, inr, List, [], ◌∷◌, ◌++◌, Bool, true, false, Option, Some, None, refl, ap, ◌∙◌, sym, subst, arith, length, drop, append_assoc, append-nil, fold}
 use Rattle.std.proofs.lemmas.List.{drop-append-le, nil_from_length}
@@ -14,12 +14,12 @@ use Rattle.ll_session.proofs.TakingLemmas.{taking_at}
 use Rattle.ll_wire.specs.Heads.{HeadValue, Unfinished, Whole, Fault, head_of}
 use Rattle.ll_wire.specs.declared.answer.Answer.{Answer}
 use Rattle.ll_wire.proofs.HeadLemmas.{nothing_there, whole-within}
-use Rattle.ll_rooms.specs.World.{World, repeat}
+use Rattle.ll_script_rooms.specs.World.{World, repeat}
 use Rattle.ll_connection.specs.Visit.{Luck, Visit, answered_by, asked, came, enough, hand_all, submit, put_out, step}
 
 -- ---- what is taken
 
--- what a taking comes to where more bytes follow
+-- the taking if more bytes follow
 abbrev pub with_more_by : Bool → Option (WantValue × Bool) → Taking → List ℕ → Taking
 with_more_by true want t more = t
 with_more_by false (Some want) t more = record t { rest = t.rest ++ more }
@@ -28,8 +28,8 @@ with_more_by false None t more = record (taking (t.rest ++ more)) { passed = t.p
 abbrev pub with_more : Taking → List ℕ → Taking
 with_more t more = with_more_by t.ends t.want t more
 
--- what was taken from these bytes: more of it where more bytes follow; where no want is given and no refusal ends it, nothing more
--- is taken from what is left; a want takes a byte
+-- `t` was taken from these bytes: if more bytes follow, `with_more` is taken; if no want is given and no refusal ends it, nothing more
+-- is taken from what is left; a want takes at least one byte
 pub record IsTaken (bytes : List ℕ) (t : Taking) : Type 0 where
   pub more : (more : List ℕ) → taking (bytes ++ more) ≡ with_more t more
   pub rests : t.ends ≡ false → t.want ≡ None → taking t.rest ≡ nothing_in t.rest
@@ -63,7 +63,7 @@ taken_in (suc n) bytes lt =
 pub is_taken : (bytes : List ℕ) → IsTaken bytes (taking bytes)
 is_taken bytes = taken_in (length bytes + 1) bytes (omega arith)
 
--- where a want is given and answered, fewer bytes are left
+-- if a want is given and answered, fewer bytes are left
 pub fewer : (s : SessionValue) (want : WantValue) (a : Answer) → next_want s ≡ Some want → length (replied (pulled s) a).unread < length s.unread
 fewer s want a e = grind (arith, (is_taken s.unread).shortens)
 
@@ -143,7 +143,7 @@ module _ (n : ℕ) where
   steps_still zero v e = refl
   steps_still (suc k) v e = ap (step enough n) (steps_still k v e) ∙ e
 
-  -- where one step is all
+  -- if one step is all
   one_step : (k : ℕ) (v : Visit) → step enough n (step enough n v) ≡ step enough n v → steps (suc k) v ≡ step enough n v
   one_step k v e = first_step k v ∙ steps_still k (step enough n v) e
 

@@ -1,4 +1,4 @@
--- All that comes to a connection is calls on its session, and what each of these keeps holds after them.
+-- All that comes to a connection results in calls on its session, and what each of these preserves holds after them.
 use Rattle.std.proofs.Common.{◌≡◌, ◌≢◌, ℕ, zero, suc, ◌+◌, ◌-◌, List, [], ◌∷◌, ◌++◌, Bool, true, false, Option, Some, None, refl, ap, ap₂, ◌∙◌, sym, subst, arith, fold, length, length-append, drop, append-nil}
 use Rattle.std.specs.Prelude.{flat_map, if◌then◌else◌, nat_le}
 use Rattle.std.specs.List.{concat}
@@ -14,8 +14,8 @@ use Rattle.ll_session.specs.Talk.{SessionValue, fed, fresh, muted, next_want, pu
 use Rattle.ll_verdict.specs.declared.reply.Reply as verdict
 use Rattle.ll_wire.specs.declared.answer.Answer.{Answer}
 use Rattle.ll_wire.specs.declared.answer.Answer.TheVariants as player
-use Rattle.ll_rooms.specs.World.{World, repeat}
-use Rattle.ll_rooms.proofs.TieLemmas.{some_is}
+use Rattle.ll_script_rooms.specs.World.{World, repeat}
+use Rattle.ll_script_rooms.proofs.TieLemmas.{some_is}
 use Rattle.ll_connection.specs.Met.{outs}
 use Rattle.ll_connection.specs.Stands.{opened}
 use Rattle.ll_connection.specs.Talks.{IsTalked, TalkLaw}
@@ -44,17 +44,17 @@ none_left (a ∷ xs) =
     let rest : length (a ++ concat xs) - length a ≡ k = omega (arith, whole) in
     ap (λ b. if b then unsent (length (a ++ concat xs) - length a) xs else drop (length (a ++ concat xs)) a ∷ xs) fits ∙ ap (λ m. unsent m xs) rest ∙ none_left xs
 
--- the call that puts out an answer, for which memory is found or not
+-- the call that puts out an answer, or shuts the session if that is out of memory
 abbrev pub answer_call : Bool → Answer → Call
 answer_call true a = Reply a
 answer_call false a = Mute
 
--- the call that comes with what a request is answered, or with having to wait
+-- the call after a request is answered, or has to wait
 abbrev pub ends : Bool → Past → Option Answer → Past
 ends found q (Some a) = called q (answer_call found a)
 ends found q None = called q (Feed [])
 
--- the same where a want may be out or not
+-- the call for an answer if a want is out; none if no want is
 abbrev pub put : Option Bool → Bool → Past → Answer → Past
 put None found q a = q
 put (Some keep) found q a = called q (answer_call found a)
@@ -74,7 +74,7 @@ module _ (n : ℕ) (K : Visit → Past → Type 0)
     (ask-keeps : (asks found : Bool) (v : Visit) (q : Past) (want : WantValue) (a : Option Answer) → q.session ≡ v.session → next_want v.session ≡ Some want
     → (asked asks n want v.rooms).answer ≡ a → K v q → K (answered_by found n (pulled v.session) (asked asks n want v.rooms).rooms a) (ends found (called q Next) a))
     (mute-keeps : (v : Visit) (q : Past) → q.session ≡ v.session → v.session.out ≡ None → K v q → K (record v { session = muted v.session }) (called q Mute)) where
-  -- after these calls the session is that of a visit; so many bytes were taken, and nothing was sent
+  -- after these calls the session is that of visit `v`; the bytes `more` were taken, and nothing was sent
   record Calls (p : Past) (more : List ℕ) (v : Visit) : Type 0 where
     calls : List Call
     session : (fold called p calls).session ≡ v.session
@@ -159,7 +159,7 @@ module _ (n : ℕ) (K : Visit → Past → Type 0)
       let r = put_is found p v.session a v.session.out e refl (ap outs is) in
       record { calls = answer_call found a ∷ []; session = r.0; fed = r.1 ∙ sym (append-nil p.fed); gone = r.2; kept = kept }
 
-  -- the reply is put out, or no memory is found for it
+  -- the reply is put out, or is out of memory
   abbrev pub IsKept : Past → Answer → Visit → Type 0
   IsKept p a v = (found : Bool) → K (record v { session = put_out found v.session a }) (put v.session.out found p a)
 

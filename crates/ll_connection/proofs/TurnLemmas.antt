@@ -1,4 +1,4 @@
--- The connections with one taken out and put back, and what a turn comes to.
+-- The connections with one session taken out and put back, and the result of a turn.
 use Rattle.std.proofs.Common.{◌≡◌, ℕ, ◌++◌, List, [], ◌∷◌, Bool, false, Option, Some, None, refl, ap, ◌∙◌, subst, arith, is_some}
 use Rattle.std.specs.Prelude.{◌==◌, if◌then◌else◌, nat_eq}
 use Rattle.std.specs.Map.{set_value}
@@ -6,8 +6,8 @@ use Rattle.std.proofs.lemmas.Bool.Decides.{nat_tests}
 use Rattle.indexmap.specs.IndexMap.{IndexMap, insert_entry}
 use Rattle.ll_session.specs.Talk.{SessionValue}
 use Rattle.ll_verdict.specs.declared.reply.Reply.{Reply}
-use Rattle.ll_rooms.specs.Kept.{Kept, kept_world}
-use Rattle.ll_rooms.specs.World.{World}
+use Rattle.ll_script_rooms.specs.Kept.{Kept, kept_world}
+use Rattle.ll_script_rooms.specs.World.{World}
 use Rattle.ll_connection.specs.Stands.{IsToldVisit, IsTurn, open_in, opened}
 use Rattle.ll_connection.specs.Turn.{Connections, Turn, bytes_to, end_of, left, nothing, reply_to, session_of, shut_text, turn, with_session}
 use Rattle.ll_connection.specs.Visit.{Luck, Visit, arrived}
@@ -55,7 +55,7 @@ module _ (n : ℕ) where
   there x [] e = cc
   there x (c ∷ all) e = grind (arith, nat_tests, there x all)
 
-  -- where none is open, nothing changes
+  -- if none is open, nothing changes
   pub stays : (all : Connections) → open_in (session_of n all) ≡ None → taken_out n all ≡ all
   stays [] e = refl
   stays (c ∷ all) e = grind (arith, nat_tests, stays all)
@@ -78,9 +78,9 @@ none_ends n all w o e = grind arith
 pub none_replied : (lucks : List Luck) (n : ℕ) (reply : Reply) (all : Connections) (w : World) (o : Option Slot) → open_in o ≡ None → nothing all w ≡ reply_to lucks n reply all w o
 none_replied lucks n reply all w o e = grind arith
 
--- ---- what a turn comes to
+-- ---- the result of a turn
 
--- what none is open for changes nothing
+-- if no session is open, nothing changes
 pub still_turn : (n : ℕ) (all new : Connections) (k : Kept) (sent : Sent) (w : World) (t : Turn) → new ≡ taken_out n all → open_in (session_of n all) ≡ None
     → k ≡ kept_world w → sent.text.items ≡ [] → sent.replies ≡ 0 → nothing all w ≡ t → IsTurn new k sent t
 still_turn n all new k sent w t out none rooms text replies is =

@@ -1,3 +1,4 @@
+-- The definitions of `ll_connection`, by files.
 pub mod Laws
 pub mod Met
 pub mod Stands

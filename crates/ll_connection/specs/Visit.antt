@@ -1,8 +1,8 @@
--- One connection at the rooms: what bytes and replies make of its session and of the channels.
+-- One connection and the rooms: how bytes and replies change its session and the channels.
 use Rattle.std.specs.Prelude.{ℕ, List, [], ◌∷◌, Bool, true, false, Option, Some, None, fold, length}
 use Rattle.ll_directive.specs.Targets.{WantValue}
 use Rattle.ll_directive.specs.declared.fault.TargetFault.TheVariants.{NotFound}
-use Rattle.ll_rooms.specs.declared.owner.Owner.TheVariants.{Connection}
+use Rattle.ll_script_rooms.specs.declared.owner.Owner.TheVariants.{Connection}
 use Rattle.ll_item.specs.Settings.{Configuration}
 use Rattle.ll_item.specs.Channels.{channel_of_name}
 use Rattle.ll_session.specs.Past.{next_entries, overflows}
@@ -12,33 +12,33 @@ use Rattle.ll_verdict.specs.declared.reply.Reply.{Reply}
 use Rattle.ll_wire.specs.declared.answer.Answer.{Answer}
 use Rattle.ll_wire.specs.declared.answer.Answer.TheVariants as player
 use Rattle.ll_verdict.specs.declared.fault.AskFault.TheVariants.{Memory, RecordFull}
-use Rattle.ll_rooms.specs.World.{World, all_settings, ask, close, repeat, silent}
-use Rattle.ll_rooms.specs.declared.answer.ActAnswer as rooms
-use Rattle.ll_rooms.specs.declared.answer.ActAnswer.TheVariants.{Accepted, Refused, ClockRefused, Replied, Unavailable}
+use Rattle.ll_script_rooms.specs.World.{World, all_settings, ask, close, repeat, silent}
+use Rattle.ll_script_rooms.specs.declared.answer.ActAnswer as rooms
+use Rattle.ll_script_rooms.specs.declared.answer.ActAnswer.TheVariants.{Accepted, Refused, ClockRefused, Replied, Unavailable}
 
--- the session of a connection; the channels of a script with the requests that wait in them
+-- the session of a connection, and the channels of a script with the requests that wait in them
 pub record Visit : Type 0 where
   pub session : SessionValue
   pub rooms : World
 
 -- ---- memory
 
--- what memory is found for while a connection's next request is handed in
+-- for which steps there is memory while a connection's next request is handed in
 pub record Luck : Type 0 where
-  -- to take it from the bytes, and to answer what is refused before it; else the connection shuts
+  -- for taking it from the bytes, and for answers to what is refused before it; else the connection shuts
   pub takes : Bool
-  -- for the request in its channel; else it is no event, and is answered so
+  -- for the request in its channel; else it is no event, and is answered with Memory
   pub asks : Bool
   -- for its answer; else the connection shuts
   pub answers : Bool
 
--- for all
+-- memory for all steps
 abbrev pub enough : Luck
 enough = record { takes = true; asks = true; answers = true }
 
 -- ---- a request is made
 
--- what the rooms' answer to a request is to a player
+-- what a player gets for the rooms' answer to its request
 abbrev pub spoken : rooms.ActAnswer → Option Answer
 spoken (Accepted count) = None
 spoken (Refused fault) = None
@@ -50,7 +50,7 @@ abbrev pub first_spoken : List rooms.ActAnswer → Option Answer
 first_spoken [] = None
 first_spoken (a ∷ more) = spoken a
 
--- the channels after a request, and its answer, where it needn't wait
+-- the channels after a request, and its answer unless it waits
 pub record Asked : Type 0 where
   pub rooms : World
   pub answer : Option Answer
@@ -58,7 +58,7 @@ pub record Asked : Type 0 where
 abbrev pub heard : World → Asked
 heard w = record { rooms = silent w; answer = first_spoken w.answers }
 
--- a request of the channel at a place, for which memory is found or not
+-- connection `n` makes a request of the channel at `place`, with memory for it or not
 abbrev pub ask_at : Bool → ℕ → ℕ → WantValue → World → Asked
 ask_at true n place want w = heard (ask (Connection n) place want (silent w))
 ask_at false n place want w = record { rooms = w; answer = Some (player.Unavailable Memory) }
@@ -67,7 +67,8 @@ abbrev pub ask_in : Bool → ℕ → WantValue → World → Option (ℕ × Conf
 ask_in found n want w None = record { rooms = w; answer = Some (player.Target NotFound) }
 ask_in found n want w (Some channel) = ask_at found n channel.0 want w
 
--- a request of the connection of this number, of the channel that it names
+-- connection `n` makes a request of the channel that the request names, with memory for it or not; NotFound if there is no such channel
+-- (rule 26)
 abbrev pub asked : Bool → ℕ → WantValue → World → Asked
 asked found n want w = ask_in found n want w (channel_of_name (all_settings w) 0 want.channel)
 
@@ -77,13 +78,13 @@ abbrev pub close_if : Bool → ℕ → World → World
 close_if true n w = close (Connection n) w
 close_if false n w = w
 
--- These bytes came. Where they are too many after a request that waits, it is given up.
+-- The bytes `piece` came. If there are too many after a request that waits, it is closed.
 abbrev pub came : ℕ → List ℕ → Visit → Visit
 came n piece v = record { session = fed v.session piece; rooms = close_if (overflows v.session piece) n v.rooms }
 
 -- ---- requests are handed in
 
--- the answer to the want that is out is put out, where memory is found for it
+-- the answer to the want that is out is put out if there is memory for it; else the session shuts
 abbrev pub put_out_by : Option Bool → Bool → SessionValue → Answer → SessionValue
 put_out_by None found s answer = s
 put_out_by (Some keep) true s answer = replied s answer
@@ -112,26 +113,26 @@ abbrev pub step_if : Bool → Luck → ℕ → Visit → Visit
 step_if true luck n v = step_by luck n (record v { session = pulled v.session }) (next_want v.session)
 step_if false luck n v = record v { session = muted_if (next_entries v.session) v.session }
 
--- the session's next want is asked, where it gives one; where there is nothing to take, no memory is needed
+-- the session's next want is handed in, if it has one; if there is nothing to take, no memory is needed
 abbrev pub step : Luck → ℕ → Visit → Visit
 step luck n v = step_if luck.takes luck n v
 
--- All requests are handed in, up to one that waits, and memory is found for each. A request has a byte at least, so there are no more of
--- them than bytes.
+-- All requests are handed in, up to one that waits, with memory for each. A request has at least one byte, so there are no more of them
+-- than bytes.
 unfoldable pub hand_all : ℕ → Visit → Visit
 hand_all n v = repeat (step enough n) (length v.session.unread) v
 
--- All requests are handed in, up to one that waits, the first of them with this luck.
+-- All requests are handed in, up to one that waits: the first ones with these lucks, the others with memory for all steps.
 abbrev pub submit : List Luck → ℕ → Visit → Visit
 submit lucks n v = hand_all n (fold (λ u luck. step luck n u) v lucks)
 
 -- ---- what comes to a connection
 
--- these bytes came, with all that they make happen
+-- the bytes `piece` came, and all requests are handed in, up to one that waits
 abbrev pub arrived : List Luck → ℕ → List ℕ → Visit → Visit
 arrived lucks n piece v = submit lucks n (came n piece v)
 
--- its request that waited gets this reply, with all that this makes happen; the first luck is the reply's
+-- the request that waited gets `reply`, and all requests are handed in, up to one that waits; the first luck is for the reply
 abbrev pub released : List Luck → ℕ → Reply → Visit → Visit
 released [] n reply v = submit [] n (record v { session = put_out true v.session (player.Reply reply) })
 released (luck ∷ lucks) n reply v = submit lucks n (record v { session = put_out luck.answers v.session (player.Reply reply) })

@@ -1,8 +1,8 @@
-//! All connections of a script.
+//! All connections of a script, by number.
 ghost use Rattle.std.specs.Prelude.{List, ◌≡◌, ◌++◌, ◌==◌, [], None, Some, IfOk, OnOk, if◌then◌else◌};
 ghost use Rattle.std.specs.Map.{set_value};
-ghost use Rattle.ll_rooms.specs.Kept.{kept_world};
-ghost use Rattle.ll_rooms.specs.World.{World, all_settings};
+ghost use Rattle.ll_script_rooms.specs.Kept.{kept_world};
+ghost use Rattle.ll_script_rooms.specs.World.{World, all_settings};
 ghost use Rattle.ll_connection.specs.Turn as turn;
 ghost use Rattle.ll_connection.specs.Visit.{Luck};
 ghost use Rattle.ll_connection.specs.Stands.{IsTurn, open_in, opened};
@@ -11,14 +11,14 @@ use crate::open::Open;
 use crate::sent::Sent;
 use indexmap::IndexMap;
 use ll_item::Channels;
-use ll_rooms::{Owner, Rooms};
 use ll_script::push_shut;
+use ll_script_rooms::{Owner, Rooms};
 use ll_session::Session;
 use ll_verdict::Reply;
 use std::alloc::{AllocError, AllocFailed, Global};
 use std::marker::Model;
 
-/// The connections of a script by their numbers, in order of opening; of one that has ended, the number alone. It must be spent by
+/// The connections of a script by number, in order of opening; of one that has ended, the number alone. It must be consumed by
 /// [`Connections::finish`].
 pub struct Connections {
     alloc: Global,
@@ -33,7 +33,7 @@ impl Model for Connections {
     ghost view = { λ c. c.sessions.entries };
 }
 
-/// Only an empty one may be let go: a session that is forgotten in it is a failed proof.
+/// Only an empty collection can be dropped, so forgetting a session in it is a failed proof.
 impl Drop for Connections {
     fn drop(self)
         requires { self ≡ [] }
@@ -44,7 +44,7 @@ impl Drop for Connections {
 }
 
 impl Connections {
-    /// No connection.
+    /// Returns an empty collection.
     pub fn new(alloc: Global) -> Connections
         ensures { result ≡ [] }
     {
@@ -54,8 +54,8 @@ impl Connections {
         }
     }
 
-    /// These bytes came on the connection of this number, which they open where it is new. One that has ended takes none. Its requests
-    /// are handed in, up to one that waits; what is written are the answers, in order, and whether it has shut.
+    /// Adds the bytes `piece` to connection `number`, which they open if it is new, and hands in its requests, up to one that waits. A
+    /// connection that has ended takes no bytes. Returns what is written: the answers, in order, and whether the connection has shut.
     pub fn bytes(
         &mut self,
         rooms: &mut Rooms,
@@ -79,7 +79,7 @@ impl Connections {
         Ok(sent)
     }
 
-    /// The connection of this number ended: its request that waits is given up. One that isn't there, or has ended, is passed over.
+    /// Ends connection `number`, and closes its request if one waits. Does nothing if it isn't there or has ended.
     pub fn end(&mut self, rooms: &mut Rooms, number: u64)
         ensures { (w : World) → rooms.old ≡ kept_world w
             → (self.new ≡ (turn.end number self.old w).connections) × (rooms.new ≡ kept_world (turn.end number self.old w).rooms) }
@@ -91,8 +91,8 @@ impl Connections {
         rooms.close(Owner::Connection(number));
     }
 
-    /// The request of the connection of this number, which waited, gets its reply; then its next requests are handed in, up to one that
-    /// waits. One that isn't there, or has ended, is passed over.
+    /// Answers the request of connection `number` that waited with `reply`, and hands in its next requests, up to one that waits. Returns
+    /// what is written, which is nothing if the connection isn't there or has ended.
     pub fn reply(
         &mut self,
         rooms: &mut Rooms,
@@ -116,7 +116,7 @@ impl Connections {
         Ok(sent)
     }
 
-    /// Ends all connections; nothing is written. Requests that wait in the rooms are the rooms' to give up.
+    /// Ends all connections, and writes nothing. Their requests that wait stay in the rooms.
     pub fn finish(self) {
         let Connections {
             alloc: _,
@@ -128,7 +128,7 @@ impl Connections {
         sessions.destroy_empty();
     }
 
-    /// Takes the session of this number out; of a number that is new it is a new one.
+    /// Takes the session of `number` out, or opens one if the number is new. Returns `None` if it has ended.
     fn take_or_open(&mut self, number: u64) -> Option<Session>
         ensures session { result ≡ opened (turn.session_of number self.old) }
         ensures left { self.new ≡ set_value (λ m. number == m) self.old None }
@@ -139,7 +139,7 @@ impl Connections {
         self.take(number)
     }
 
-    /// Takes the session of this number out, where one is open.
+    /// Takes the session of `number` out, if it is open.
     fn take(&mut self, number: u64) -> Option<Session>
         ensures session { result ≡ open_in (turn.session_of number self.old) }
         ensures left { self.new ≡ set_value (λ m. number == m) self.old None }
@@ -147,7 +147,7 @@ impl Connections {
         self.sessions.get_mut(&number)?.take()
     }
 
-    /// Puts a session back under its number, of which all answers were sent; one that has shut ends, and so much is written.
+    /// Puts a session without answers back under its number. One that has shut is ended, and that is written.
     fn put_back(&mut self, connection: Open, mut sent: Sent) -> Result<Sent, AllocError>
         ensures kept { OnOk result (self.new ≡ turn.with_session connection.number (if connection.session.shut then None else Some connection.session) self.old) }
         ensures text { IfOk result (λ all. all.text.items ≡ sent.text.items ++ turn.shut_text connection.session.shut connection.number) }
@@ -164,7 +164,7 @@ impl Connections {
         Ok(sent)
     }
 
-    /// Puts this in place of what stands under the number.
+    /// Puts `slot` under `number`, in place of what is there.
     fn put(&mut self, number: u64, slot: Option<Session>) -> Result<(), AllocError>
         ensures { OnOk result (self.new ≡ turn.with_session number slot self.old) }
     {
@@ -182,7 +182,7 @@ impl Connections {
     }
 }
 
-/// Ends the session, where there is one.
+/// Ends the session, if there is one.
 fn spend(slot: Option<Session>) {
     if let Some(session) = slot {
         session.end();

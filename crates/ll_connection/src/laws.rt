@@ -1,16 +1,16 @@
-//! Laws of connections at the rooms, each the contract of an empty function.
+//! Laws of a script's connections and rooms, each the contract of an empty function.
 ghost use Rattle.ll_connection.specs.Laws.{PiecesLaw, TurnsLaw};
 ghost use Rattle.ll_connection.specs.Talks.{TalkLaw};
 
-/// Wherever the bytes of a connection are cut, the same comes of them: to its session and to the channels where it is one
-/// connection, and where it is one of many also to the others, with what is written for it and how many answers that is.
+/// States that the bytes of a connection have the same effect wherever they are cut in two, if there is enough memory: on its session and
+/// the channels (`visits`), and on all connections, the text that is written and the number of answers (`turns`).
 pub fn pieces_law()
     ensures visits { PiecesLaw }
     ensures turns { TurnsLaw }
 {}
 
-/// What comes to a connection is calls on its session, of which `session_law` of `ll_session` speaks: the bytes that come are taken, and what is
-/// written are the answers that were put out, all of them, in order.
+/// States that what comes to a connection results in calls on its session, which `session_law` of `ll_session` is about: the bytes that come
+/// are taken, and what is written is all answers that were put out, in order, and whether the session has shut.
 pub fn talk_law()
     ensures { TalkLaw }
 {}

@@ -1,4 +1,4 @@
-//! The connections of a script: the bytes that come on each, the requests in them, and the answers that are sent.
+//! The connections of a script: the bytes that come on each, the requests in these, and the answers that are sent.
 #![tactic(auto)]
 
 mod connections;

@@ -1,29 +1,29 @@
-//! One connection that hasn't ended.
+//! One connection of a script that hasn't ended, and what comes to it.
 ghost use Rattle.std.specs.Prelude.{List, Bool, ◌≡◌, ◌<◌, [], Ok, IfOk, OnOk, false, length, true};
 ghost use Rattle.ll_session.specs.Talk.{fed};
-ghost use Rattle.ll_rooms.specs.Kept.{answers_of, kept_world};
-ghost use Rattle.ll_rooms.specs.World.{World, all_settings};
+ghost use Rattle.ll_script_rooms.specs.Kept.{answers_of, kept_world};
+ghost use Rattle.ll_script_rooms.specs.World.{World, all_settings};
 ghost use Rattle.ll_connection.specs.Visit as visit;
 ghost use Rattle.ll_connection.specs.Stands.{AreTold, IsStill, IsToldVisit, IsVisit};
 
 use crate::sent::Sent;
 use ll_directive::{TargetFault, Want};
 use ll_item::Channels;
-use ll_rooms::{ActAnswer, AskStop, Owner, Rooms};
 use ll_script::push_sent;
+use ll_script_rooms::{ActAnswer, AskStop, Owner, Rooms};
 use ll_session::Session;
 use ll_verdict::{AskFault, Reply};
 use ll_wire::Answer;
 use std::alloc::AllocError;
 
-/// A connection with its session. It must be spent.
+/// A connection with its session, which must be ended.
 pub(crate) struct Open {
     pub(crate) number: u64,
     pub(crate) session: Session,
 }
 
 impl Open {
-    /// These bytes came, with all that they make happen.
+    /// Takes the bytes `piece`, then hands in all requests up to one that waits, and writes the answers.
     pub(crate) fn arrive(
         &mut self,
         rooms: &mut Rooms,
@@ -41,7 +41,7 @@ impl Open {
         Ok(())
     }
 
-    /// Its request that waited gets this reply, with all that this makes happen.
+    /// Answers the request that waited with `reply`, then hands in all requests up to one that waits, and writes the answers.
     pub(crate) fn release(
         &mut self,
         rooms: &mut Rooms,
@@ -59,7 +59,7 @@ impl Open {
         Ok(())
     }
 
-    /// These bytes came. Where they are too many after a request that waits, it is given up.
+    /// Takes the bytes `piece`. If there are too many after a request that waits, closes that request.
     fn come(&mut self, rooms: &mut Rooms, piece: &[u8]) -> Result<(), AllocError>
         ensures came { (w : World) → rooms.old ≡ kept_world w
             → OnOk result (IsVisit self.new.session rooms.new (visit.came self.old.number piece.now (record { session = self.old.session; rooms = w }))) }
@@ -98,7 +98,7 @@ impl Open {
         }
     }
 
-    /// Hands in the next request, where there is one. Answers whether another may follow.
+    /// Hands in the next request, if there is one. Returns whether another may follow.
     fn step(&mut self, rooms: &mut Rooms, declared: &Channels) -> Result<bool, AllocError>
         ensures stepped { (w : World) → rooms.old ≡ kept_world w → declared.now ≡ all_settings w
             → OnOk result ((luck : visit.Luck) × IsVisit self.new.session rooms.new (visit.step luck self.old.number (record { session = self.old.session; rooms = w }))) }
@@ -125,7 +125,7 @@ impl Open {
         }
     }
 
-    /// Puts out the answer to the want that is out, if one is; where no memory is found for it, the session shuts.
+    /// Puts out `answer` to the want that is out, if one is; shuts the session if that is out of memory.
     fn put_out(&mut self, answer: &Answer)
         ensures put { (found : Bool) × (self.new.session ≡ visit.put_out found self.old.session answer.now) }
         ensures number { self.new.number ≡ self.old.number }
@@ -138,7 +138,7 @@ impl Open {
         }
     }
 
-    /// Makes a request. What it is answered, where it needn't wait.
+    /// Makes the request `want`. Returns its answer, or `None` if it waits.
     fn ask(
         &self,
         rooms: &mut Rooms,
@@ -158,14 +158,14 @@ impl Open {
         }
     }
 
-    /// No memory was found: its session is spent.
+    /// Ends the session, and returns the error out of memory.
     pub(crate) fn fail(self) -> AllocError {
         let Open { number: _, session } = self;
         session.end();
         AllocError
     }
 
-    /// Writes the answers that are there.
+    /// Writes the answers of the session to `sent`, and takes them out of it.
     fn tell(&mut self, sent: &mut Sent) -> Result<(), AllocError>
         ensures told { OnOk result (AreTold self.old.number self.old.session.answers sent.old sent.new) }
         ensures session { OnOk result (self.new.session ≡ record self.old.session { answers = [] }) }
@@ -180,7 +180,7 @@ impl Open {
     }
 }
 
-/// What the rooms' answer to a request is to a player, where there is one.
+/// Returns what a player gets for the rooms' answer to its request.
 fn spoken(said: Option<ActAnswer>) -> Option<Answer>
     ensures { result ≡ visit.first_spoken (answers_of said) }
 {

@@ -33,7 +33,7 @@ inward-same a b c d p q = ap (λ looks. let i : Inward = record { looks = looks;
 pub looked_at-none : (before : Inward) → before ≡ looked_at 0 0 [] before
 looked_at-none before = inward-same before.looks (looked 0 0 before.looks) before.bytes (append_known before.bytes []) (looked-none before.looks) (came-none before.bytes)
 
--- first so many reads, and then so many more
+-- some reads, and then some more, are all of them together
 pub looked_at-twice : (reads ends more later : ℕ) (came more_came : List ℕ) (before : Inward)
     → looked_at more later more_came (looked_at reads ends came before) ≡ looked_at (reads + more) (ends + later) (came ++ more_came) before
 looked_at-twice reads ends more later came more_came before =

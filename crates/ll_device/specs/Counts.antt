@@ -1,4 +1,4 @@
--- How often two things happened.
+-- The value of two counts: how often two things happened.
 use Rattle.std.specs.Prelude.{ℕ}
 
 pub record Counts : Type 0 where

@@ -1,4 +1,4 @@
-//! The devices of std as a reader and a writer, with counts that only proofs see.
+//! Readers and writers of std as devices, with counts that only proofs see.
 ghost use Rattle.std.specs.Prelude.{◌≡◌, ◌+◌};
 
 use crate::counts::TwoCounts;
@@ -6,16 +6,16 @@ use crate::device::{Failed, Reader, Writer};
 use std::io::{Read, Write};
 use std::sync::ledger::{Blank, Ledger};
 
-/// A reader over one of std, which tells the bytes that are left as far as std's does.
+/// A reader over one of std. The bytes that are left are known if std's reader knows them.
 #[derive(Drop)]
 pub struct CountedReader<R: Read + Drop, L: Ledger> {
     source: R,
-    /// Uses that went well, and uses that failed.
+    /// The number of uses that succeeded, and of those that failed.
     uses: TwoCounts<L>,
 }
 
 impl<R: Read + Drop, L: Ledger> CountedReader<R, L> {
-    /// The blank is one of two parts.
+    /// Returns a reader that wasn't used yet. `blank` has two parts, one for each count.
     pub fn new(source: R, blank: Blank) -> CountedReader<R, L>
         requires name { blank.name ≡ L.name }
         requires parts { blank.parts ≡ L.parts }
@@ -51,16 +51,16 @@ impl<R: Read + Drop, L: Ledger> Reader for CountedReader<R, L> {
     }
 }
 
-/// A writer over one of std, which tells the bytes that it holds as far as std's does.
+/// A writer over one of std. The bytes written so far are known if std's writer knows them.
 #[derive(Drop)]
 pub struct CountedWriter<W: Write + Drop, L: Ledger> {
     sink: W,
-    /// Uses that went well, and uses that failed.
+    /// The number of uses that succeeded, and of those that failed.
     uses: TwoCounts<L>,
 }
 
 impl<W: Write + Drop, L: Ledger> CountedWriter<W, L> {
-    /// The blank is one of two parts.
+    /// Returns a writer that hasn't failed yet. `blank` has two parts, one for each count.
     pub fn new(sink: W, blank: Blank) -> CountedWriter<W, L>
         requires name { blank.name ≡ L.name }
         requires parts { blank.parts ≡ L.parts }
@@ -79,7 +79,7 @@ impl<W: Write + Drop, L: Ledger> Writer for CountedWriter<W, L> {
 
     ghost failures = { λ w. w.uses.second };
 
-    /// A write that takes nothing of a text that isn't empty failed too.
+    /// Writes once. A write that takes nothing of a text that isn't empty fails too.
     fn write(&mut self, text: &[u8]) -> Result<usize, Failed> {
         match self.sink.write(text) {
             Ok(count) if count > 0 || text.is_empty() => {

@@ -3,19 +3,19 @@ ghost use Rattle.std.specs.Prelude.{◌≡◌, Some};
 
 use crate::counts::TwoCounts;
 use crate::device::{Failed, Writer};
-use crate::peer::Link;
+use crate::link::Link;
 use std::sync::ledger::{Blank, Ledger};
 
-/// A link over another, which tells how often it is read, and of the bytes that come what the other tells.
+/// A link over another one, which counts its reads. The bytes that came are known if the other link knows them.
 #[derive(Drop)]
 pub struct CountedLink<P: Link, L: Ledger> {
     link: P,
-    /// How often it was read, and how often its other end was found to have ended it.
+    /// The number of reads, and how often the peer was found to have ended the link.
     looks: TwoCounts<L>,
 }
 
 impl<P: Link, L: Ledger> CountedLink<P, L> {
-    /// The blank is one of two parts.
+    /// Returns a link that wasn't read yet. `blank` has two parts, one for each count.
     pub fn new(link: P, blank: Blank) -> CountedLink<P, L>
         requires name { blank.name ≡ L.name }
         requires parts { blank.parts ≡ L.parts }

@@ -4,7 +4,7 @@ ghost use Rattle.std.specs.Prelude.{◌≡◌, ◌+◌};
 use std::marker::Model;
 use std::sync::ledger::{Blank, Book, Ledger, Share};
 
-/// How often two things happened, for readers, writers and links to keep. It takes no bytes when it runs.
+/// How often two things happened, kept by readers, writers and links. It takes no bytes when the program runs.
 #[derive(Drop)]
 pub struct TwoCounts<L: Ledger> {
     all: Book<L>,
@@ -24,7 +24,7 @@ impl<L: Ledger> Model for TwoCounts<L> {
 }
 
 impl<L: Ledger> TwoCounts<L> {
-    /// Neither has happened so far. The blank is one of two parts.
+    /// Returns two counts of 0. `blank` has two parts, one for each.
     pub fn new(blank: Blank) -> TwoCounts<L>
         requires name { blank.name ≡ L.name }
         requires parts { blank.parts ≡ L.parts }
@@ -36,14 +36,14 @@ impl<L: Ledger> TwoCounts<L> {
         TwoCounts { all, first, second }
     }
 
-    /// The first happened once more.
+    /// Adds 1 to the first count.
     pub fn add_first(&mut self)
         ensures { self.new ≡ record { first = self.old.first + 1; second = self.old.second } }
     {
         self.all.add(&mut self.first, 1);
     }
 
-    /// The second happened once more.
+    /// Adds 1 to the second count.
     pub fn add_second(&mut self)
         ensures { self.new ≡ record { first = self.old.first; second = self.old.second + 1 } }
     {

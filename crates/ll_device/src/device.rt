@@ -1,24 +1,25 @@
+//! Readers and writers of bytes, by single reads and writes, and how whole texts are written.
 ghost use Rattle.std.specs.Prelude.{◌≡◌, ◌<◌, ◌≤◌, ◌+◌, ◌++◌, [], ℕ, List, Option, IfOk, OnOk, OnErr, take, length};
 ghost use Rattle.std.specs.Io.KnownBytes.{Appends, Consumes, IsAtEnd, Keeps};
 ghost use Rattle.ll_device.specs.Inward.{Inward, untold};
 ghost use Rattle.ll_device.specs.Written.{AppendsPrefix};
 
-/// A device failed in a read or a write.
+/// The failure of a device in a read or a write.
 #[derive(Clone, Copy, Debug, PartialEq, Eq)]
 pub struct Failed;
 
-/// Where bytes come from, in any pieces.
+/// A source of bytes, which come in any pieces.
 pub trait Reader {
-    /// The bytes that are left, where the reader tells them.
+    /// The bytes that are left, if they are known.
     ghost left: { Self → Option (List ℕ) };
 
-    /// How often it was read.
+    /// The number of reads so far.
     ghost reads: { Self → ℕ };
 
-    /// How often a read failed.
+    /// The number of failures so far.
     ghost failures: { Self → ℕ };
 
-    /// One read: how many bytes it put first in `buf`, 0 only at the end or where `buf` is empty.
+    /// Reads once, and returns how many bytes it put at the front of `buf`: 0 only at the end, or if `buf` is empty.
     fn read(&mut self, buf: &mut [u8]) -> Result<usize, Failed>
         ensures count { IfOk result (λ n. n ≤ length buf.new) }
         ensures bytes { IfOk result (λ n. Consumes (left self.old) (left self.new) (take n buf.new)) }
@@ -29,18 +30,18 @@ pub trait Reader {
         ensures failed { OnErr result (failures self.old < failures self.new) };
 }
 
-/// Where bytes go.
+/// A sink of bytes.
 pub trait Writer {
-    /// The bytes written so far, where the writer tells them.
+    /// The bytes written so far, if they are known.
     ghost written: { Self → Option (List ℕ) };
 
-    /// How often a write failed.
+    /// The number of failures so far.
     ghost failures: { Self → ℕ };
 
-    /// How it was read and which bytes came, where it is a device that is read too and tells it.
+    /// How it was read and which bytes came, if it is also read and this is known.
     ghost inward: { Self → Inward } = { λ _. untold };
 
-    /// One write: how many bytes it took of `text`, from its first on; 0 only of an empty text.
+    /// Writes once, and returns how many bytes it took of `text`, from the first on: 0 only if `text` is empty.
     fn write(&mut self, text: &[u8]) -> Result<usize, Failed>
         ensures count { IfOk result (λ n. n ≤ length text.now) }
         ensures some { IfOk result (λ n. n ≡ 0 → text.now ≡ []) }
@@ -50,9 +51,8 @@ pub trait Writer {
         ensures failed { OnErr result (failures self.old < failures self.new) }
         ensures unread { inward self.new ≡ inward self.old };
 
-    /// One write of two texts that lie apart, as if the second stood right after the first: how many bytes it took of the first and
-    /// then of the second, from the first byte on; 0 only where both are empty. Where a writer has no such write of its own, it is one
-    /// of the first text that isn't empty.
+    /// Writes `first` and then `second` once, as one text, and returns how many bytes of both it took, from the first on: 0 only if both
+    /// are empty. By default it writes only the first of them that isn't empty.
     fn write_two(&mut self, first: &[u8], second: &[u8]) -> Result<usize, Failed>
         ensures count { IfOk result (λ n. n ≤ length (first.now ++ second.now)) }
         ensures some { IfOk result (λ n. n ≡ 0 → first.now ++ second.now ≡ []) }
@@ -70,7 +70,7 @@ pub trait Writer {
     }
 }
 
-/// Writes a whole text, in as many writes as the writer takes.
+/// Writes all of `text`, in as many writes as that takes. If it fails, a prefix was written.
 pub fn write_all<W: Writer>(writer: &mut W, text: &[u8]) -> Result<(), Failed>
     ensures whole { OnOk result (Appends (W.written writer.old) (W.written writer.new) text.now) }
     ensures cut { OnErr result (AppendsPrefix (W.written writer.old) (W.written writer.new) text.now) }
@@ -85,7 +85,7 @@ pub fn write_all<W: Writer>(writer: &mut W, text: &[u8]) -> Result<(), Failed>
     Ok(())
 }
 
-/// Writes two texts that lie apart, the second right after the first, in as many writes as the writer takes.
+/// Writes all of `first` and then of `second`, in as many writes as that takes. If it fails, a prefix of both was written.
 pub fn write_both<W: Writer>(writer: &mut W, first: &[u8], second: &[u8]) -> Result<(), Failed>
     ensures whole { OnOk result (Appends (W.written writer.old) (W.written writer.new) (first.now ++ second.now)) }
     ensures cut { OnErr result (AppendsPrefix (W.written writer.old) (W.written writer.new) (first.now ++ second.now)) }

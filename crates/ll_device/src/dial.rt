@@ -1,28 +1,29 @@
-use crate::peer::Source;
+//! Connects to an address, again and again.
+use crate::link::Source;
 use crate::socket::Socket;
 use std::net::{Net, SocketAddr, SocketAddrV4, TcpListener, TcpStream};
 use std::thread;
 use std::time::{Clock, Duration, Instant};
 
-/// How long an attempt to connect may take, in seconds.
+/// How long one attempt to connect takes at most, in seconds.
 const LIMIT: u64 = 30;
 
 /// How long to wait before each further attempt, in milliseconds.
 const PAUSE: u64 = 500;
 
-/// Where connections to an address come from.
+/// A source of connections to one address.
 #[derive(Drop)]
 pub struct Dial<'a, R> {
     rt: &'a R,
     address: SocketAddrV4,
     /// How long each connection after the first one is tried.
     retry: Duration,
-    /// Whether the first one was made.
+    /// Whether the first connection was made.
     made: bool,
 }
 
 impl<'a, R: Net<Listener = TcpListener, Stream = TcpStream>> Dial<'a, R> {
-    /// Returns one that has made none so far; `retry` is how long each connection after the first one is tried.
+    /// Returns a source that has made no connection yet. Each connection after the first one is tried for `retry`.
     pub fn new(rt: &'a R, address: SocketAddrV4, retry: Duration) -> Dial<'a, R> {
         Dial {
             rt,
@@ -32,7 +33,7 @@ impl<'a, R: Net<Listener = TcpListener, Stream = TcpStream>> Dial<'a, R> {
         }
     }
 
-    /// Makes a connection, if that goes at once. A read or a write of it fails if it takes longer than 30 seconds.
+    /// Tries once to connect, for 30 seconds at most. A read or a write of the connection fails if it waits for longer than 30 seconds.
     fn connect(&self) -> std::io::Result<Socket> {
         let limit = Duration::from_secs(LIMIT);
         let stream = TcpStream::connect_timeout(self.rt, &SocketAddr::V4(self.address), limit)?;
@@ -42,7 +43,7 @@ impl<'a, R: Net<Listener = TcpListener, Stream = TcpStream>> Dial<'a, R> {
 }
 
 impl<R: Net<Listener = TcpListener, Stream = TcpStream> + Clock> Dial<'_, R> {
-    /// Makes a further connection: waits and tries, again and again until `retry` has gone by.
+    /// Makes a further connection: pauses and tries, again and again, and returns `None` once `retry` has gone by.
     fn connect_again(&self) -> Option<Socket> {
         let start = Instant::now(self.rt).ok()?;
         for _ in 0..u64::MAX {
@@ -61,7 +62,7 @@ impl<R: Net<Listener = TcpListener, Stream = TcpStream> + Clock> Dial<'_, R> {
 impl<R: Net<Listener = TcpListener, Stream = TcpStream> + Clock> Source for Dial<'_, R> {
     type Peer = Socket;
 
-    /// The first connection is tried once, each later one for a while, after a pause each time.
+    /// Tries the first connection once, and each later one until `retry` has gone by, with a pause before each attempt.
     fn next(&mut self) -> Option<Socket> {
         if self.made {
             return self.connect_again();

@@ -1,6 +1,6 @@
-//! Where connections come in.
+//! A listening port, where connections come in.
 use crate::device::Failed;
-use crate::peer::{Role, Source};
+use crate::link::{Role, Source};
 use crate::socket::Socket;
 use libc::net::{SO_KEEPALIVE, SOL_SOCKET};
 use std::net::{Net, SocketAddr, SocketAddrV4, TcpListener, TcpStream};
@@ -8,30 +8,31 @@ use std::os::fd::AsRawFd;
 use std::thread;
 use std::time::{Clock, Duration};
 
-/// How many connections may wait to be accepted.
+/// The most connections that wait to be accepted.
 const BACKLOG: i32 = 4_096;
 
-/// How long to wait after a connection could not be accepted, in milliseconds.
+/// How long to wait after a connection couldn't be accepted, in milliseconds.
 const PAUSE: u64 = 50;
 
-/// Has the system look, while nothing comes, whether the peer is there at all. It need not be able to.
+/// Has the system probe, while nothing comes, whether the peer is still there. A failure to set this is ignored.
 fn keep_alive(stream: &TcpStream) {
     let on = [1, 0, 0, 0, 0, 0, 0, 0, 0, 0, 0, 0, 0, 0, 0, 0];
     let fd = stream.as_raw_fd();
     let _ = unsafe { libc::net::setsockopt(fd, SOL_SOCKET, SO_KEEPALIVE, &on, 4) };
 }
 
-/// Where connections of one role come in.
+/// A listening port for connections of one role.
 #[derive(Drop)]
 pub struct Door<'a, R> {
     rt: &'a R,
     role: Role,
     listener: TcpListener,
+    /// Whether a failure to accept was already reported on stderr.
     told: bool,
 }
 
 impl<'a, R: Net<Listener = TcpListener, Stream = TcpStream>> Door<'a, R> {
-    /// Listens at this address. It fails where the system refuses it.
+    /// Listens at `address`. Fails if the system refuses it.
     pub fn open(rt: &'a R, address: SocketAddrV4, role: Role) -> Result<Door<'a, R>, Failed> {
         let Ok(listener) = TcpListener::bind(rt, address) else {
             return Err(Failed);
@@ -47,12 +48,12 @@ impl<'a, R: Net<Listener = TcpListener, Stream = TcpStream>> Door<'a, R> {
         })
     }
 
-    /// Whose connections come in.
+    /// Returns the role of those who connect.
     pub fn role(&self) -> Role {
         self.role
     }
 
-    /// The address that it listens at. It fails where the system doesn't tell it.
+    /// Returns the address that it listens at. Fails if the system doesn't return it.
     pub fn address(&self) -> Result<SocketAddr, Failed> {
         match self.listener.local_addr() {
             Ok(address) => Ok(address),
@@ -60,7 +61,8 @@ impl<'a, R: Net<Listener = TcpListener, Stream = TcpStream>> Door<'a, R> {
         }
     }
 
-    /// The next connection. A player may send nothing for 30 seconds while no request of it is held, a publisher for as long as it is there.
+    /// Accepts the next connection. A player's read fails if nothing comes within 30 seconds; a publisher's waits forever, while the system
+    /// probes whether it is still there.
     fn accept(&self) -> std::io::Result<Socket> {
         let (stream, _) = self.listener.accept()?;
         let _ = stream.set_nodelay(true);

@@ -1,4 +1,4 @@
-//! What bytes come from and go to: devices, who connects to a server, sockets, at either end, and those at rest.
+//! What bytes come from and go to: readers and writers, connections and where they come from, and connections at rest.
 #![tactic(auto)]
 
 mod counted;
@@ -7,7 +7,7 @@ mod counts;
 mod device;
 mod dial;
 mod door;
-mod peer;
+mod link;
 mod rest;
 mod socket;
 mod stream;
@@ -18,6 +18,6 @@ pub use counts::TwoCounts;
 pub use device::{Failed, Reader, Writer, write_all, write_both};
 pub use dial::Dial;
 pub use door::Door;
-pub use peer::{Link, Role, Source, TryLink};
+pub use link::{Link, Role, Source, TryLink};
 pub use rest::{Lookout, Ready, Rest};
 pub use socket::Socket;

@@ -1,4 +1,4 @@
-//! Connections at rest: nothing of them has to be done until their other ends send more, and they take no thread.
+//! Connections at rest: those with nothing to do until their peers send more, which take no thread.
 use crate::device::Failed;
 use mio::unix::SourceFd;
 use mio::{Events, Interest, Poll, Registry, Token};
@@ -10,51 +10,51 @@ use std::sync::atomic::{AtomicU64, Ordering};
 use std::sync::{Mutex, Wait};
 use std::time::{Clock, Duration, Instant};
 
-/// How many connections are told of at once.
+/// The most events that one poll returns.
 const EVENTS: usize = 64;
 
-/// A connection may be at rest so long, in seconds; then it is closed.
+/// How long a connection is at rest before it is closed, in seconds.
 const LIMIT: u64 = 30;
 
-/// The place of a connection, which is kept while it is served.
+/// The place of a connection, kept while it is served.
 #[derive(Drop)]
 struct Place<T> {
     at_rest: Option<T>,
-    /// When it came to rest, in seconds as they are counted here.
+    /// When it came to rest, by `Rest::seconds`.
     since: u64,
 }
 
-/// Connections at rest, under keys, and their places while they are served.
+/// Connections at rest under their keys, and the places of those that are served.
 #[derive(Drop)]
 pub struct Rest<T: Drop> {
     registry: Registry,
     places: Mutex<Slab<Place<T>>>,
-    /// How many seconds were counted.
+    /// The number of seconds counted so far.
     seconds: AtomicU64,
 }
 
-/// What the system tells of the connections at rest. Who has it is the one who waits for them.
+/// The poller of the connections at rest: whoever holds it waits for all of them.
 #[derive(Drop)]
 pub struct Lookout {
     poll: Poll,
     events: Events,
-    /// How many of the events were given.
+    /// The number of `events` that were returned.
     given: usize,
-    /// When a second was counted.
+    /// When the last second was counted.
     counted: Instant,
 }
 
-/// That a connection at rest can be read.
+/// An event of a connection at rest, which can be read.
 #[derive(Clone, Copy, Debug, PartialEq, Eq)]
 pub struct Ready {
     /// The connection's key.
     pub key: usize,
-    /// Whether its other end will send no more than came so far.
+    /// Whether its peer will send no more than came so far.
     pub ended: bool,
 }
 
 impl<T: Drop> Rest<T> {
-    /// No connection is there. It fails where no memory is found, or the system refuses it.
+    /// Returns an empty `Rest` and its poller. Fails if out of memory, or if the system refuses it.
     pub fn new<R: Net + Clock>(rt: &R, alloc: Global) -> Result<(Rest<T>, Lookout), Failed> {
         let (Ok(poll), Ok(events), Ok(counted)) = (
             Poll::new(rt),
@@ -80,7 +80,7 @@ impl<T: Drop> Rest<T> {
         Ok((rest, lookout))
     }
 
-    /// Takes in a connection of this descriptor. It is closed where no memory is found, or the system refuses it.
+    /// Adds `connection`, whose descriptor is `fd`, to those at rest. Closes it if out of memory, or if the system refuses it.
     pub fn take_in<R: Wait>(&self, rt: &R, fd: RawFd, connection: T) -> Result<(), Failed> {
         let place = Place {
             at_rest: Some(connection),
@@ -100,13 +100,13 @@ impl<T: Drop> Rest<T> {
         Ok(())
     }
 
-    /// Takes the connection under this key from its place, where it is at rest.
+    /// Takes the connection under `key` from its place, or returns `None` if it isn't at rest.
     pub fn take<R: Wait>(&self, rt: &R, key: usize) -> Option<T> {
         let mut places = self.places.lock(rt);
         places.get_mut(key)?.at_rest.take()
     }
 
-    /// Puts the connection under this key back to rest.
+    /// Puts the connection under `key` back to rest.
     pub fn put_back<R: Wait>(&self, rt: &R, key: usize, connection: T) {
         let since = self.now();
         let mut places = self.places.lock(rt);
@@ -116,25 +116,25 @@ impl<T: Drop> Rest<T> {
         }
     }
 
-    /// Has the system tell once more what came of the connection under this key, of this descriptor.
+    /// Has the system report once more what came on the connection under `key`, whose descriptor is `fd`.
     pub fn look_again(&self, fd: RawFd, key: usize) {
         let _ = self
             .registry
             .reregister(&mut SourceFd(&fd), Token(key), Interest::READABLE);
     }
 
-    /// Gives up the place of a connection that was taken, of this descriptor: it is served elsewhere.
+    /// Drops the place of a connection that was taken, whose descriptor is `fd`, because it is served elsewhere.
     pub fn leave<R: Wait>(&self, rt: &R, fd: RawFd, key: usize) {
         let _ = self.registry.deregister(&mut SourceFd(&fd));
         self.forget(rt, key);
     }
 
-    /// Gives up the place of a connection that was taken, and is closed.
+    /// Drops the place of a connection that was taken, because it is closed.
     pub fn forget<R: Wait>(&self, rt: &R, key: usize) {
         self.places.lock(rt).try_remove(key);
     }
 
-    /// A second has passed: who was at rest for too long is closed.
+    /// Counts a second, and closes the connections that were at rest for too long.
     fn count_second<R: Wait>(&self, rt: &R) {
         let now = self.seconds.fetch_add(1, Ordering::SeqCst);
         self.places.lock(rt).retain(|_, place| {
@@ -142,14 +142,14 @@ impl<T: Drop> Rest<T> {
         });
     }
 
-    /// How many seconds were counted.
+    /// Returns the number of seconds counted so far.
     fn now(&self) -> u64 {
         self.seconds.load(Ordering::SeqCst)
     }
 }
 
 impl Lookout {
-    /// The next connection of those that can be read. It waits for one, for a second at most.
+    /// Returns the next connection that can be read, for which it waits for a second at most.
     pub fn next<T: Drop, R: Wait + Clock>(&mut self, rt: &R, rest: &Rest<T>) -> Option<Ready> {
         if self.given >= self.events.iter().len() {
             self.wait(rt, rest);
@@ -162,7 +162,7 @@ impl Lookout {
         })
     }
 
-    /// Waits until the system tells of some, for a second at most.
+    /// Waits for events, for a second at most.
     fn wait<T: Drop, R: Wait + Clock>(&mut self, rt: &R, rest: &Rest<T>) {
         if self.is_second_over(rt) {
             rest.count_second(rt);
@@ -173,7 +173,7 @@ impl Lookout {
             .poll(&mut self.events, Some(Duration::from_secs(1)));
     }
 
-    /// Whether a second is over, which then is counted.
+    /// Returns whether a second has gone by since the last one, and counts the next from now on if so.
     fn is_second_over<R: Clock>(&mut self, rt: &R) -> bool {
         let Ok(now) = Instant::now(rt) else {
             return false;

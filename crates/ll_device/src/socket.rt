@@ -1,8 +1,8 @@
-//! The connections of a machine.
+//! TCP connections as links.
 ghost use Rattle.std.specs.Prelude.{◌≡◌, is_err};
 
 use crate::device::{Failed, Writer};
-use crate::peer::{Link, TryLink};
+use crate::link::{Link, TryLink};
 use crate::stream;
 use crate::stream::Stream;
 use libc::net::POLLRDHUP;
@@ -12,34 +12,35 @@ use std::io::IoSlice;
 use std::net::TcpStream;
 use std::os::fd::{AsRawFd, RawFd};
 
-/// How long a write may take, and a read that isn't waited for without end, in milliseconds.
+/// How long a write waits at most, and a read that doesn't wait forever, in milliseconds.
 const LIMIT: i32 = 30_000;
 
-/// Waits without end.
+/// The limit of a wait that lasts forever.
 const ENDLESS: i32 = -1;
 
-/// A connection. Once a read or a write has failed, it gives no more bytes and takes all without sending them. std tells no bytes of a `TcpStream`, so it tells none;
-/// the functions of `stream.rt`, by which it reads and writes, say what they do to the bytes of any stream.
+/// A TCP connection. Once a read or a write has failed, each read returns the end, and each write takes all bytes without sending them.
+/// Its contracts don't say which bytes come and go, because those of std's `TcpStream` don't; the functions of `stream.rt`, by which it
+/// reads and writes, say it of any stream.
 #[derive(Drop)]
 pub struct Socket {
     stream: TcpStream,
-    /// How long a read waits at most, in milliseconds, or without end.
+    /// How long a read waits at most, in milliseconds, or -1: forever.
     patience: i32,
     failed: bool,
 }
 
 impl Socket {
-    /// The connection of a stream, each read of which fails where nothing comes within 30 seconds.
+    /// Returns a connection whose reads fail if nothing comes within 30 seconds.
     pub(crate) fn new(stream: TcpStream) -> Socket {
         Socket::waiting(stream, LIMIT)
     }
 
-    /// The connection of a stream whose reads wait without end.
+    /// Returns a connection whose reads wait forever.
     pub(crate) fn patient(stream: TcpStream) -> Socket {
         Socket::waiting(stream, ENDLESS)
     }
 
-    /// The connection of a stream whose reads wait so long.
+    /// Returns a connection whose reads wait for `patience` milliseconds at most; -1 waits forever.
     fn waiting(stream: TcpStream, patience: i32) -> Socket {
         let _ = stream.set_nonblocking(true);
         Socket {
@@ -49,7 +50,7 @@ impl Socket {
         }
     }
 
-    /// Returns what a use of its stream did, and keeps whether that failed.
+    /// Keeps whether `call`, a use of its stream, has failed, and returns it.
     fn used<T>(&mut self, call: Result<T, Failed>) -> Result<T, Failed>
         ensures value { result ≡ call }
         ensures failed { self.new.failed ≡ is_err call }
@@ -108,7 +109,8 @@ impl Link for Socket {
         self.used(call)
     }
 
-    /// Whether the peer has ended what it sends, also where bytes that it sent before weren't read, or the connection is broken.
+    /// Returns whether the peer has ended what it sends, even if bytes that it sent before weren't read, or whether the connection is
+    /// broken.
     fn gone(&mut self) -> bool {
         self.failed || self.stream.is_told(POLLRDHUP, 0)
     }

@@ -1,5 +1,5 @@
-//! Reads and writes of a stream whose calls say that they would have to wait. What they do to its bytes is told in std's words, so of every stream as far as std tells
-//! its bytes.
+//! Reads and writes of a nonblocking stream. Their contracts speak of its bytes in std's terms, so they hold for every stream whose
+//! bytes std knows.
 ghost use Rattle.std.specs.Prelude.{◌≡◌, ◌≤◌, ◌++◌, [], IfOk, IfSome, MatchResult, Ok, length};
 ghost use Rattle.std.specs.Io.{WritesAtMost};
 ghost use Rattle.std.specs.Io.KnownBytes.{Keeps, ReadConsumes, WriteAppends};
@@ -10,18 +10,18 @@ use libc::net::{POLLIN, POLLOUT};
 use std::io;
 use std::io::{ErrorKind, Read, Write};
 
-/// A stream whose calls don't wait.
+/// A nonblocking stream.
 pub(crate) trait Stream: Read + Write {
-    /// Writes `first` and then `second` by one call of the system, and returns how many bytes it took of both, from the first byte on.
+    /// Writes `first` and then `second` by one system call, and returns how many bytes of both it took, from the first on.
     fn write_both(&mut self, first: &[u8], second: &[u8]) -> io::Result<usize>
         ensures bound { WritesAtMost result (first.now ++ second.now) }
         ensures bytes { WriteAppends (Self.contents self.old) (Self.contents self.new) result (first.now ++ second.now) };
 
-    /// Returns whether the system tells one of `events` of it within `limit` milliseconds; -1 waits without end.
+    /// Returns whether the system reports one of `events` within `limit` milliseconds; -1 waits forever.
     fn is_told(&self, events: i16, limit: i32) -> bool;
 }
 
-/// Reads once into `buf`, and returns how many bytes came, or nothing if it would have to wait.
+/// Reads once into `buf`, and returns how many bytes came, or `None` if it would have to wait.
 pub(crate) fn receive<R: Read>(stream: &mut R, buf: &mut [u8]) -> Result<Option<usize>, Failed>
     ensures count { IfOk result (λ done. IfSome done (λ n. n ≤ length buf.new)) }
     ensures bytes { MatchResult result (λ done. TryConsumes (R.remaining stream.old) (R.remaining stream.new) done buf.new) (λ _. Keeps (R.remaining stream.old) (R.remaining stream.new)) }
@@ -29,7 +29,8 @@ pub(crate) fn receive<R: Read>(stream: &mut R, buf: &mut [u8]) -> Result<Option<
     done(stream.read(buf))
 }
 
-/// Writes `text` once, and returns how many bytes of it the stream took, or nothing if it would have to wait. A write that takes nothing of a text that isn't empty fails.
+/// Writes `text` once, and returns how many bytes of it the stream took, or `None` if it would have to wait. A write that takes nothing
+/// of a text that isn't empty fails.
 pub(crate) fn send<W: Write>(stream: &mut W, text: &[u8]) -> Result<Option<usize>, Failed>
     ensures count { IfOk result (λ done. IfSome done (λ n. n ≤ length text.now)) }
     ensures some { IfOk result (λ done. IfSome done (λ n. n ≡ 0 → text.now ≡ [])) }
@@ -41,8 +42,8 @@ pub(crate) fn send<W: Write>(stream: &mut W, text: &[u8]) -> Result<Option<usize
     }
 }
 
-/// Writes `first` and then `second` once, by one call of the system, and returns how many bytes of both the stream took, or nothing if it would have to wait. A write
-/// that takes nothing, though not both are empty, fails.
+/// Writes `first` and then `second` once, by one system call, and returns how many bytes of both the stream took, or `None` if it would
+/// have to wait. A write that takes nothing, though not both are empty, fails.
 pub(crate) fn send_two<S: Stream>(
     stream: &mut S,
     first: &[u8],
@@ -58,7 +59,7 @@ pub(crate) fn send_two<S: Stream>(
     }
 }
 
-/// Returns what a call of the system did: its count, or nothing if it would have to wait.
+/// Returns the count of a system call, or `None` if it would have to wait.
 fn done(call: io::Result<usize>) -> Result<Option<usize>, Failed>
     ensures count { IfOk result (λ done. IfSome done (λ n. call ≡ Ok n)) }
     ensures ok { IfOk call (λ n. result ≡ Ok (Some n)) }
@@ -70,8 +71,8 @@ fn done(call: io::Result<usize>) -> Result<Option<usize>, Failed>
     }
 }
 
-/// Reads into `buf` as soon as something comes, and returns how many bytes did, 0 at the end. It fails if nothing comes within `limit` milliseconds; -1 waits without
-/// end.
+/// Reads into `buf` as soon as something comes, and returns how many bytes did, 0 at the end. Fails if nothing comes within `limit`
+/// milliseconds; -1 waits forever.
 pub(crate) fn read<S: Stream>(stream: &mut S, buf: &mut [u8], limit: i32) -> Result<usize, Failed>
     ensures count { IfOk result (λ n. n ≤ length buf.new) }
     ensures bytes { ReadConsumes (S.remaining stream.old) (S.remaining stream.new) result buf.new }
@@ -87,8 +88,8 @@ pub(crate) fn read<S: Stream>(stream: &mut S, buf: &mut [u8], limit: i32) -> Res
     Err(Failed)
 }
 
-/// Writes `text` as soon as the stream takes some of it, and returns how many bytes it took, 0 only of an empty text. It fails if it takes none within `limit`
-/// milliseconds.
+/// Writes `text` as soon as the stream takes some of it, and returns how many bytes it took: 0 only if `text` is empty. Fails if it takes
+/// none within `limit` milliseconds.
 pub(crate) fn write<S: Stream>(stream: &mut S, text: &[u8], limit: i32) -> Result<usize, Failed>
     ensures count { IfOk result (λ n. n ≤ length text.now) }
     ensures some { IfOk result (λ n. n ≡ 0 → text.now ≡ []) }
@@ -105,8 +106,8 @@ pub(crate) fn write<S: Stream>(stream: &mut S, text: &[u8], limit: i32) -> Resul
     Err(Failed)
 }
 
-/// Writes `first` and then `second` as soon as the stream takes some of them, and returns how many bytes of both it took, 0 only where both are empty. It fails if it
-/// takes none within `limit` milliseconds.
+/// Writes `first` and then `second` as soon as the stream takes some of them, and returns how many bytes of both it took: 0 only if both
+/// are empty. Fails if it takes none within `limit` milliseconds.
 pub(crate) fn write_two<S: Stream>(
     stream: &mut S,
     first: &[u8],

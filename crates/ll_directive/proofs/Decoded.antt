@@ -1,4 +1,4 @@
--- A `+` is a space: what a name or a value decodes to, where it has neither, is what its escapes alone decode to.
+-- A `+` is a space: if what a name or a value decodes to has neither, it is what the escapes alone decode to.
 use Rattle.std.proofs.Common.{◌≡◌, ℕ, ◌*◌, ◌+◌, ◌==◌, ◌⊎◌, List, [], ◌∷◌, ◌++◌, Bool, true, false, ◌&&◌, cond, inl, inr, ⊎_elim, refl, ap, sym, subst, ◌∙◌, length, arith, length-append}
 use Rattle.std.specs.Prelude.{nat_lt}
 use Rattle.std.specs.Char.{digit_value}

@@ -1,4 +1,4 @@
--- What a request waits for, and whether it may be for a delta update, is told by the file that it is for.
+-- The file that a request is for determines what it waits for, and whether it can be for a delta update.
 use Rattle.std.proofs.Common.{◌≡◌, Bool, true, false, None, refl}
 use Rattle.ll_directive.specs.Files.{is_playlist}
 use Rattle.ll_directive.specs.Targets.{IsPlain, WantValue, awaited_by, awaited_in}

@@ -1,4 +1,4 @@
--- What the pairs of a query tell, settled, is what the query asks for.
+-- The directives read pair by pair, settled, are what the query asks for.
 use Rattle.std.proofs.Common.{◌≡◌, ℕ, List, [], ◌∷◌, Option, Some, None, refl, ap, ◌∙◌}
 use Rattle.std.specs.Prelude.{option_map, option_and_then, fold, codes}
 use Rattle.ll_attr.specs.Numbers.{number_in}

@@ -37,11 +37,11 @@ media_by (name ∷ ending ∷ []) = one_number name ending
 media_by (name ∷ index ∷ ending ∷ []) = two_numbers name index ending
 media_by other = None
 
--- what a file of media is for: `s<n>.m4s`, `s<n>.<index>.m4s` or `init<n>.mp4`
+-- the media that a file is: `s<n>.m4s`, `s<n>.<index>.m4s` or `init<n>.mp4`
 abbrev pub media_file : List ℕ → Option What
 media_file file = media_by (pieces_at 46 file)
 
--- what a file is for: a playlist, `live.m3u8`, or media
+-- what a file is: a playlist, `live.m3u8`, or media
 abbrev pub file_in : List ℕ → Option What
 file_in file = if bytes_eq file (codes "live.m3u8") then Some what.Playlist else media_file file
 

@@ -1,4 +1,4 @@
--- What the target of a player's request wants (section 6.2.5 of draft-pantos-hls-rfc8216bis).
+-- What the target of a player's request asks for (section 6.2.5 of draft-pantos-hls-rfc8216bis).
 use Rattle.std.specs.Prelude.{◌≡◌, ℕ, List, [], ◌∷◌, Bool, true, false, ◌&&◌, ◌||◌, ◌==◌, not, Option, Some, None, Result, Ok, Err, if◌then◌else◌, ok_or, option_and_then, option_map, map, filter, length, nat_le, bytes_eq, codes}
 use Rattle.std.specs.Char.{is_ascii_graphic}
 use Rattle.std.specs.List.{list_all, before_first, after_first}
@@ -25,10 +25,10 @@ pub record WantValue : Type 0 where
   -- the file that it is for
   pub what : What
   pub awaited : Awaited
-  -- which delta update it is for; none for the full playlist, and for media
+  -- the delta update that it is for; none for the full playlist and for media
   pub skip : Option SkipKind
 
--- what a request for media waits for, where it waits: a part, until it is there
+-- what a request for media waits for, if it waits: a part, until it is there
 abbrev pub awaits : What → Awaited
 awaits what.Playlist = Nothing
 awaits (what.Segment number) = Nothing
@@ -75,23 +75,23 @@ is_colon b = b == 58
 abbrev pub is_scheme : List ℕ → Bool
 is_scheme text = str_eq_ignore_ascii_case text (codes "http") || str_eq_ignore_ascii_case text (codes "https")
 
--- what stands after `http://` or `https://`
+-- what follows `http://` or `https://`
 abbrev pub after_scheme : List ℕ → Option (List ℕ)
 after_scheme front = if is_scheme (before_first is_colon front) then after (codes "//") (after_first is_colon front) else None
 
--- what stands after the slash that ends an authority of one or more bytes; nothing, where the authority is all there is
+-- what follows the slash that ends an authority of one or more bytes; nothing if the authority is all there is
 abbrev pub after_authority : List ℕ → Option (List ℕ)
 after_authority text = if nat_le 1 (length (before_first is_slash text)) then Some (after_first is_slash text) else None
 
--- the path without its first slash, of what stands before the first question mark of a target
+-- the path without its first slash; `front` is what precedes a target's first question mark
 abbrev pub path_of : List ℕ → Option (List ℕ)
 path_of front = option_or (after (codes "/") front) (option_and_then after_authority (after_scheme front))
 
--- the path without its first slash, where the target has the form of one
+-- the path without its first slash, if the target has the form of one
 abbrev pub path_in : List ℕ → Option (List ℕ)
 path_in target = if list_all is_target_byte target then path_of (before_first is_question target) else None
 
--- the names of the channel and the rendition, and what of it, in `CHANNEL/RENDITION/FILE`, the parts of a path between slashes
+-- the names of the channel and the rendition, and the file, in `CHANNEL/RENDITION/FILE`, given as its parts between slashes
 abbrev pub names_in : List (List ℕ) → Option (List ℕ × (List ℕ × What))
 names_in (channel ∷ rendition ∷ file ∷ []) =
     if is_name channel && is_name rendition then option_map (λ what. (channel, (rendition, what))) (file_in file) else None
@@ -99,11 +99,11 @@ names_in other = None
 
 -- ---- the query
 
--- the values that stand with this name
+-- the values of the pairs with this name
 abbrev pub values_of : List ℕ → List (List ℕ × List ℕ) → List (List ℕ)
 values_of name pairs = map (λ pair. pair.1) (filter (λ pair. bytes_eq pair.0 name) pairs)
 
--- what each of these values means, where all of them mean something
+-- what each of the values means, if all of them mean something
 abbrev pub each : {A : Type 0} → (List ℕ → Option A) → List (List ℕ) → Option (List A)
 each read [] = Some []
 each read (value ∷ more) = option_and_then (λ x. option_map (λ xs. x ∷ xs) (each read more)) (read value)
@@ -122,7 +122,7 @@ awaited_of None (Some part) = Err PartAlone
 awaited_of (Some msn) None = Ok (Segment msn)
 awaited_of (Some msn) (Some part) = Ok (Part msn part)
 
--- what the meanings of the three directives' values ask for; None stands for values of which one means nothing
+-- what the values of the three directives ask for; None stands for values of which one means nothing
 abbrev pub directives_of : Option (List ℕ) → Option (List ℕ) → Option (List SkipKind) → Result (Awaited × Option SkipKind) TargetFault
 directives_of msns parts skips = do
   msns ← ok_or msns BadMsn
@@ -134,7 +134,7 @@ directives_of msns parts skips = do
   awaited ← awaited_of msn part
   Ok (awaited, skip)
 
--- what a query of these pairs asks for
+-- what a query with these pairs asks for
 abbrev pub directives_in : List (List ℕ × List ℕ) → Result (Awaited × Option SkipKind) TargetFault
 directives_in pairs =
     directives_of (each (number_in 20) (values_of (codes "_HLS_msn") pairs))
@@ -143,11 +143,11 @@ directives_in pairs =
 
 -- ---- the whole
 
--- what a request asks of a file by its query: that of media isn't read
+-- what a request asks of a file by its query; that of media isn't read
 abbrev pub directives_for : What → List (List ℕ × List ℕ) → Result (Awaited × Option SkipKind) TargetFault
 directives_for what pairs = if is_playlist what then directives_in pairs else Ok (awaits what, None)
 
--- what a target wants, or its first fault
+-- what a target asks for, or its first fault
 abbrev pub want_in : List ℕ → Result WantValue TargetFault
 want_in target = do
   path ← ok_or (path_in target) BadTarget

@@ -1,4 +1,4 @@
--- For private contracts: what the pairs of a query tell, one after another.
+-- For private contracts: the directives of a query, read pair by pair.
 use Rattle.std.specs.Prelude.{ℕ, List, Bool, ◌&&◌, ◌==◌, not, Option, Some, None, Result, Ok, Err, ok_or, option_and_then, option_map, fold, length, nat_le, codes}
 use Rattle.std.specs.Char.{is_ascii_graphic}
 use Rattle.std.specs.List.{list_all}
@@ -12,11 +12,11 @@ use Rattle.ll_directive.specs.declared.query.Few.{Few}
 use Rattle.ll_directive.specs.declared.query.Few.TheVariants.{Zero, One, More}
 use Rattle.ll_directive.specs.declared.query.Directives.{Directives}
 
--- a byte that is no space, however it was decoded
+-- a byte that a name or a value that means something can have: no space, and no `+`, which may stand for one
 abbrev pub is_plain : ℕ → Bool
 is_plain b = is_ascii_graphic b && not (b == 43)
 
--- a text as short as every name and value that means something
+-- whether a text is plain, and no longer than any name or value that means something
 abbrev pub is_short : List ℕ → Bool
 is_short text = list_all is_plain text && nat_le (length text) 20
 
@@ -25,11 +25,11 @@ with_one Zero x = One x
 with_one (One y) x = More
 with_one More x = More
 
--- what is told with one more value, where it means something
+-- the values of a directive with one more, if that means something
 abbrev pub with_value : {A : Type 0} → Option (Few A) → Option A → Option (Few A)
 with_value told value = option_and_then (λ few. option_map (λ x. with_one few x) value) told
 
--- what is told with these values after what was told before
+-- the values of a directive after more of them
 abbrev pub told_by : {A : Type 0} → (List ℕ → Option A) → Option (Few A) → List (List ℕ) → Option (Few A)
 told_by read told values = fold (λ t value. with_value t (read value)) told values
 
@@ -46,7 +46,7 @@ at_most_one_of Zero = Ok None
 at_most_one_of (One x) = Ok (Some x)
 at_most_one_of More = Err Double
 
--- what is asked for by what was told
+-- what the directives ask for, or the first fault
 abbrev pub settled : Directives → Result (Awaited × Option SkipKind) TargetFault
 settled d = do
   msns ← ok_or d.msn BadMsn

@@ -1,16 +1,17 @@
+//! What can be wrong with the target of a request.
 ghost use Rattle.std.specs.Prelude.{◌≡◌};
 ghost use Rattle.ll_directive.specs.Targets.{status_of, fault_name};
 
 use std::alloc::AllocError;
 use thiserror::Error;
 
-/// Why a target wants nothing: its first fault, in this order.
+/// The first fault of a target, in this order.
 #[derive(Clone, Copy, Debug, PartialEq, Eq, Error)]
 pub enum TargetFault {
-    /// It isn't of a target's form.
+    /// It hasn't the form of a target.
     #[error("BadTarget")]
     BadTarget,
-    /// Its path is none of a playlist's.
+    /// Its path is neither that of a playlist nor that of media.
     #[error("NotFound")]
     NotFound,
     /// A `_HLS_msn` that is no number below 2^64.
@@ -22,13 +23,13 @@ pub enum TargetFault {
     /// A `_HLS_skip` that is neither `YES` nor `v2`.
     #[error("BadSkip")]
     BadSkip,
-    /// A directive stands twice.
+    /// A directive that occurs more than once.
     #[error("Double")]
     Double,
     /// A `_HLS_part` without a `_HLS_msn`.
     #[error("PartAlone")]
     PartAlone,
-    /// No memory was found.
+    /// Out of memory.
     #[error("Memory")]
     Memory,
 }
@@ -44,7 +45,7 @@ impl From<AllocError> for TargetFault {
 }
 
 impl TargetFault {
-    /// The HTTP status of the answer.
+    /// Returns the HTTP status of the answer.
     pub fn status(self) -> u16
         ensures { result ≡ status_of self }
     {
@@ -55,7 +56,7 @@ impl TargetFault {
         }
     }
 
-    /// The name that players read.
+    /// Returns the name that players read.
     pub fn name(self) -> &'static str
         ensures { result.now ≡ fault_name self }
     {

@@ -6,7 +6,7 @@ use ll_attr::{after, cut};
 use ll_format::number;
 use ll_item::What;
 
-/// What a file is for: a playlist, `live.m3u8`, or media.
+/// Parses the name of a file: a playlist, `live.m3u8`, or media.
 pub(crate) fn file_in(file: &str) -> Option<What>
     ensures { result ≡ spec.file_in file.now }
 {
@@ -16,7 +16,7 @@ pub(crate) fn file_in(file: &str) -> Option<What>
     media_file(file)
 }
 
-/// What a file of media is for: `s<n>.m4s`, `s<n>.<index>.m4s` or `init<n>.mp4`, with numbers without leading zeros.
+/// Parses the name of a file of media: `s<n>.m4s`, `s<n>.<index>.m4s` or `init<n>.mp4`, with numbers below 2^64 without leading zeros.
 #[tactic(auto, using(crate::proofs::Pieces::more_media))]
 pub fn media_file(file: &str) -> Option<What>
     ensures { result ≡ spec.media_file file.now }
@@ -31,7 +31,7 @@ pub fn media_file(file: &str) -> Option<What>
     two_numbers(name, index, ending)
 }
 
-/// `s<n>.m4s` or `init<n>.mp4`
+/// Parses `s<n>.m4s` or `init<n>.mp4`.
 fn one_number(name: &str, ending: &str) -> Option<What>
     ensures { result ≡ spec.one_number name.now ending.now }
 {
@@ -44,7 +44,7 @@ fn one_number(name: &str, ending: &str) -> Option<What>
     }
 }
 
-/// `s<n>.<index>.m4s`
+/// Parses `s<n>.<index>.m4s`.
 fn two_numbers(name: &str, index: &str, ending: &str) -> Option<What>
     ensures { result ≡ spec.two_numbers name.now index.now ending.now }
 {
@@ -55,7 +55,7 @@ fn two_numbers(name: &str, index: &str, ending: &str) -> Option<What>
     Some(What::Part(msn, number(index, u64::MAX)?))
 }
 
-/// The number after a key.
+/// Parses the number after `key`.
 fn number_after(key: &str, text: &str) -> Option<u64>
     ensures { result ≡ spec.number_after key.now text.now }
 {

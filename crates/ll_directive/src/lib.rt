@@ -1,4 +1,4 @@
-//! What the target of a player's request wants: a playlist, and which part of the stream it waits for, or media. Sections are those of
+//! What the target of a player's request asks for: a playlist, and which part of the stream it waits for, or media. Sections are those of
 //! draft-pantos-hls-rfc8216bis.
 #![tactic(auto)]
 

@@ -8,7 +8,7 @@ use crate::file::file_in;
 use ll_attr::{after, cut};
 use ll_item::{What, is_name};
 
-/// What stands before the first separator, or the whole text, and what stands after it, or nothing.
+/// Returns what precedes the first `separator`, or the whole text, and what follows it, or nothing.
 pub(crate) fn split(text: &str, separator: char) -> (&str, &str)
     requires { separator < 128 }
     ensures before { result.0.now ≡ before_first (λ b. b == separator) text.now }
@@ -20,7 +20,7 @@ pub(crate) fn split(text: &str, separator: char) -> (&str, &str)
     }
 }
 
-/// The path without its first slash, of what stands before a target's first question mark.
+/// Returns the path without its first slash, or `None` if there is none. `front` is what precedes a target's first question mark.
 pub(crate) fn path_of(front: &str) -> Option<&str>
     ensures { MatchOption result (spec.path_of front.now ≡ None) (λ path. spec.path_of front.now ≡ Some path.now) }
 {
@@ -35,7 +35,7 @@ pub(crate) fn path_of(front: &str) -> Option<&str>
     }
 }
 
-/// What stands after `http://` or `https://`.
+/// Returns what follows `http://` or `https://`.
 fn after_scheme(front: &str) -> Option<&str>
     ensures { MatchOption result (spec.after_scheme front.now ≡ None) (λ rest. spec.after_scheme front.now ≡ Some rest.now) }
 {
@@ -47,14 +47,14 @@ fn after_scheme(front: &str) -> Option<&str>
     }
 }
 
-/// Whether a text is `http` or `https`, each letter in either case.
+/// Returns whether a text is `http` or `https`, each letter in either case.
 fn is_scheme(text: &str) -> bool
     ensures { result ≡ spec.is_scheme text.now }
 {
     text.eq_ignore_ascii_case("http") || text.eq_ignore_ascii_case("https")
 }
 
-/// The names of the channel and the rendition, and what of it, in `CHANNEL/RENDITION/FILE`.
+/// Parses `CHANNEL/RENDITION/FILE`: the names of the channel and the rendition, and the file.
 #[tactic(auto, using(crate::proofs::Pieces::more_names))]
 pub(crate) fn names_in(path: &str) -> Option<(&str, &str, What)>
     ensures { MatchOption result (spec.names_in (pieces_at 47 path.now) ≡ None)

@@ -1,4 +1,4 @@
-//! The directives in a query. What they tell is found without memory.
+//! The directives in a query, read without memory.
 ghost use Rattle.std.specs.Prelude.{◌≡◌, ◌≢◌, ◌∷◌, ℕ, List, Option, Some, None, false, IfErr, MatchOption, option_map, fold};
 ghost use Rattle.form_urlencoded.specs.Form.{parse, decode};
 ghost use Rattle.ll_attr.specs.Numbers.{number_in};
@@ -22,7 +22,7 @@ enum Few<T> {
     More,
 }
 
-/// What is told of each directive: its values, or None where one of them means nothing.
+/// The values of each directive, or `None` if one of them means nothing.
 #[derive(Clone, Copy)]
 struct Directives {
     msn: Option<Few<u64>>,
@@ -30,7 +30,7 @@ struct Directives {
     skip: Option<Few<SkipKind>>,
 }
 
-/// What a query asks for.
+/// Parses a query: what it waits for, and which delta update it asks for, or its first fault.
 #[tactic(auto, using(crate::proofs::Tells::settled_told))]
 pub(crate) fn read_query(query: &[u8]) -> Result<(Awaited, Option<SkipKind>), TargetFault>
     ensures value { result ≡ directives_in (parse query.now) }
@@ -39,7 +39,7 @@ pub(crate) fn read_query(query: &[u8]) -> Result<(Awaited, Option<SkipKind>), Ta
     told(query).settled()
 }
 
-/// What the pairs of a query tell.
+/// Reads the directives of all pairs of a query.
 fn told(query: &[u8]) -> Directives
     ensures { result ≡ spec.told_after (record { msn = Some Zero; part = Some Zero; skip = Some Zero }) (parse query.now) }
 {
@@ -55,7 +55,7 @@ fn told(query: &[u8]) -> Directives
 }
 
 impl Directives {
-    /// What is told with this name and this value, both as they are encoded.
+    /// Returns the directives with one more pair, `name` and `value`, both still encoded.
     fn with(self, name: &[u8], value: &[u8]) -> Directives
         ensures { (more : List (List ℕ × List ℕ)) → spec.told_after result more ≡ spec.told_after self ((decode name.now, decode value.now) ∷ more) }
     {
@@ -79,7 +79,7 @@ impl Directives {
         }
     }
 
-    /// What is asked for, or the first fault.
+    /// Returns what the directives ask for, or the first fault.
     fn settled(self) -> Result<(Awaited, Option<SkipKind>), TargetFault>
         ensures value { result ≡ spec.settled self }
         ensures not_memory { IfErr result (λ fault. fault ≢ TargetFault.Memory) }
@@ -95,7 +95,7 @@ impl Directives {
 }
 
 impl<T: Copy> Few<T> {
-    /// With one more value.
+    /// Returns the values with one more.
     fn with(self, value: T) -> Few<T>
         ensures { result ≡ spec.with_one self value }
     {
@@ -105,7 +105,7 @@ impl<T: Copy> Few<T> {
         }
     }
 
-    /// The value, where there is one, or the fault that there are more.
+    /// Returns the value, or `None` if there is none. Fails if there are more.
     fn at_most_one(self) -> Result<Option<T>, TargetFault>
         ensures { result ≡ spec.at_most_one_of self }
     {
@@ -117,7 +117,7 @@ impl<T: Copy> Few<T> {
     }
 }
 
-/// The values of a directive with one more, or None where one of them means nothing.
+/// Returns the values of a directive with one more, or `None` if one of them means nothing.
 fn with_value<T: Copy>(told: Option<Few<T>>, value: Option<T>) -> Option<Few<T>>
     ensures { result ≡ spec.with_value told value }
 {
@@ -125,7 +125,7 @@ fn with_value<T: Copy>(told: Option<Few<T>>, value: Option<T>) -> Option<Few<T>>
     Some(few.with(value?))
 }
 
-/// What a request waits for that has such a `_HLS_msn` and such a `_HLS_part`.
+/// Returns what a request with this `_HLS_msn` and this `_HLS_part` waits for.
 fn awaited(msn: Option<u64>, part: Option<u64>) -> Result<Awaited, TargetFault>
     ensures { result ≡ awaited_of msn part }
 {
@@ -137,7 +137,7 @@ fn awaited(msn: Option<u64>, part: Option<u64>) -> Result<Awaited, TargetFault>
     }
 }
 
-/// The number that a value spells.
+/// Parses the number that a value spells.
 #[tactic(auto, using(crate::proofs::Short::no_number))]
 fn number(value: &[u8]) -> Option<u64>
     ensures { result ≡ number_in 20 (decode value.now) }
@@ -145,7 +145,7 @@ fn number(value: &[u8]) -> Option<u64>
     parse_number(decoded(value)?.as_str(), 20)
 }
 
-/// What a value of `_HLS_skip` means.
+/// Parses a value of `_HLS_skip`.
 #[tactic(auto, using(crate::proofs::Short::no_skip))]
 fn skip(value: &[u8]) -> Option<SkipKind>
     ensures { result ≡ skip_in (decode value.now) }
@@ -157,8 +157,8 @@ fn skip(value: &[u8]) -> Option<SkipKind>
     }
 }
 
-/// What a name or a value decodes to, where that is short and has no space. A `+` is a space, or one that was escaped: no name and
-/// no value that means something has either.
+/// Decodes a name or a value, or returns `None` if the result is longer than 20 bytes or has a byte that isn't plain: then it means nothing. A `+` is
+/// a space, or one that was escaped; no name and no value that means something has either.
 fn decoded(raw: &[u8]) -> Option<ArrayString<20>>
     ensures { MatchOption result (spec.is_short (decode raw.now) ≡ false) (λ text. text.bytes ≡ decode raw.now) }
 {
@@ -172,7 +172,7 @@ fn decoded(raw: &[u8]) -> Option<ArrayString<20>>
     Some(text)
 }
 
-/// Whether a byte is 0x21 to 0x7E, but no `+`.
+/// Returns whether a byte is 0x21 to 0x7E, but no `+`.
 fn is_plain(b: u8) -> bool
     ensures { result ≡ spec.is_plain b }
 {

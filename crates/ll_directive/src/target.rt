@@ -1,4 +1,4 @@
-//! A target, read.
+//! The target of a request, parsed.
 ghost use Rattle.std.specs.Prelude.{◌≡◌, ◌≢◌, IfOk, IfErr, IsOk, IsErrOf, Ok, Err, None, Some, MatchOption};
 ghost use Rattle.std.specs.List.{after_first, list_all};
 ghost use Rattle.form_urlencoded.specs.Form.{parse};
@@ -14,9 +14,9 @@ use ll_item::{SkipKind, What};
 use percent_encoding::ascii_str;
 use std::alloc::Global;
 
-/// What the target of a request wants (section 6.2.5): `/CHANNEL/RENDITION/FILE`, or that after `http://` or `https://` and an
-/// authority, with a query or none. The file is a playlist, `live.m3u8`, or media as playlists name it; the query of media isn't read. Or the target's first fault, in the order of [`TargetFault`]; memory that isn't found comes
-/// after all other faults.
+/// Parses the target of a request (section 6.2.5): `/CHANNEL/RENDITION/FILE`, or that after `http://` or `https://` and an authority, with a query or
+/// none. The file is a playlist, `live.m3u8`, or media as playlists name it; the query of media isn't read. Fails with the target's first fault, in
+/// the order of [`TargetFault`].
 pub fn read_target(alloc: Global, target: &[u8]) -> Result<Want, TargetFault>
     ensures value { IfOk result (λ want. want_in target.now ≡ Ok want) }
     ensures refused { IfErr result (λ fault. fault ≢ TargetFault.Memory → want_in target.now ≡ Err fault) }
@@ -34,7 +34,7 @@ pub fn read_target(alloc: Global, target: &[u8]) -> Result<Want, TargetFault>
     Ok(Want::of(channel, rendition, what, awaited, skip))
 }
 
-/// What a request asks of a file by its query: that of media isn't read.
+/// Returns what a request asks of the file `what` by its query: that of media isn't read.
 fn directives_for(what: What, query: &str) -> Result<(Awaited, Option<SkipKind>), TargetFault>
     ensures value { result ≡ spec.directives_for what (parse query.now) }
     ensures not_memory { IfErr result (λ fault. fault ≢ TargetFault.Memory) }
@@ -45,8 +45,8 @@ fn directives_for(what: What, query: &str) -> Result<(Awaited, Option<SkipKind>)
     }
 }
 
-/// The name of the channel in a target that wants something, as [`read_target`] reads it. It takes no memory, so a channel that isn't
-/// there can be told where none is found.
+/// Returns the name of the channel in a target that [`read_target`] accepts. It takes no memory, so that an unknown channel can be reported even when
+/// out of memory.
 pub fn named_channel(target: &[u8]) -> Option<&str>
     ensures { (want : spec.WantValue) → want_in target.now ≡ Ok want → MatchOption result ⊥ (λ name. name.now ≡ want.channel) }
 {
@@ -55,7 +55,7 @@ pub fn named_channel(target: &[u8]) -> Option<&str>
     Some(channel)
 }
 
-/// The path without its first slash and the query, where the target has the form of one.
+/// Returns the path without its first slash, and the query, or `None` if the target hasn't the form of one.
 fn parts_of(target: &[u8]) -> Option<(&str, &str)>
     ensures path { MatchOption result (spec.path_in target.now ≡ None) (λ parts. spec.path_in target.now ≡ Some parts.0.now) }
     ensures query { MatchOption result (spec.path_in target.now ≡ None) (λ parts. parts.1.now ≡ after_first spec.is_question target.now) }
@@ -67,14 +67,14 @@ fn parts_of(target: &[u8]) -> Option<(&str, &str)>
     Some((path_of(front)?, query))
 }
 
-/// Whether these bytes may stand in a target.
+/// Returns whether a target can have these bytes.
 fn is_target_text(bytes: &[u8]) -> bool
     ensures { result ≡ list_all spec.is_target_byte bytes.now }
 {
     bytes.iter().all(|b| is_target_byte(*b))
 }
 
-/// Whether a byte is 0x21 to 0x7E, but no `#`.
+/// Returns whether a byte is 0x21 to 0x7E, but no `#`.
 fn is_target_byte(b: u8) -> bool
     ensures { result ≡ spec.is_target_byte b }
 {

@@ -1,4 +1,4 @@
-//! What a request wants.
+//! What a request asks for, as its target says it.
 ghost use Rattle.std.specs.Prelude.{◌≡◌, ◌&&◌, IfOk, None, Some, false, if◌then◌else◌, true};
 ghost use Rattle.ll_directive.specs.Files.{is_playlist};
 ghost use Rattle.ll_directive.specs.Targets as spec;
@@ -16,13 +16,13 @@ use std::marker::Model;
 pub enum Awaited {
     /// Nothing.
     Nothing,
-    /// The whole segment of this media sequence number (`_HLS_msn`).
+    /// The whole segment of this Media Sequence Number (`_HLS_msn`).
     Segment(u64),
-    /// The part of this place in the segment of this media sequence number (`_HLS_msn`, `_HLS_part`).
+    /// The part of the segment of this Media Sequence Number (`_HLS_msn`) with this Part Index (`_HLS_part`).
     Part(u64, u64),
 }
 
-/// What a request for media waits for, where it waits: a part, until it is there.
+/// Returns what a request for media waits for, if it waits: a part, until it is there.
 pub(crate) fn awaits(what: What) -> Awaited
     ensures { result ≡ spec.awaits what }
 {
@@ -32,7 +32,7 @@ pub(crate) fn awaits(what: What) -> Awaited
     }
 }
 
-/// What a request wants: the playlist or media of a rendition of a channel.
+/// A playlist or media that a request asks for, of a rendition of a channel.
 #[derive(Drop)]
 pub struct Want {
     channel: Text,
@@ -56,7 +56,7 @@ impl Model for Want {
 }
 
 impl Want {
-    /// The playlist of the rendition of this name of the channel of this name; none where one of them hasn't a name's form.
+    /// Returns the want of a playlist, or `None` if `channel` or `rendition` hasn't the form of a name.
     pub fn new(
         channel: Text,
         rendition: Text,
@@ -72,7 +72,7 @@ impl Want {
         Some(Want::of(channel, rendition, What::Playlist, awaited, skip))
     }
 
-    /// Media of the rendition of this name of the channel of this name; none where one of them hasn't a name's form.
+    /// Returns the want of the media `what`, or `None` if `channel` or `rendition` hasn't the form of a name.
     pub fn media(channel: Text, rendition: Text, what: What) -> Option<Want>
         ensures { result ≡ (if is_name channel && is_name rendition then Some (media_want channel rendition what) else None) }
     {
@@ -82,7 +82,7 @@ impl Want {
         Some(Want::of(channel, rendition, what, awaits(what), None))
     }
 
-    /// What is wanted of the rendition of this name of the channel of this name.
+    /// Returns the want of the file `what`.
     pub(crate) fn of(
         channel: Text,
         rendition: Text,
@@ -104,7 +104,7 @@ impl Want {
         }
     }
 
-    /// The channel's name, which has a name's form.
+    /// Returns the channel's name, which has the form of a name.
     pub fn channel(&self) -> &str
         ensures value { result.now ≡ self.now.channel }
         ensures named { is_name result.now ≡ true }
@@ -112,7 +112,7 @@ impl Want {
         self.channel.as_str()
     }
 
-    /// The rendition's name, which has a name's form.
+    /// Returns the rendition's name, which has the form of a name.
     pub fn rendition(&self) -> &str
         ensures value { result.now ≡ self.now.rendition }
         ensures named { is_name result.now ≡ true }
@@ -120,14 +120,14 @@ impl Want {
         self.rendition.as_str()
     }
 
-    /// The file that the request is for.
+    /// Returns the file that the request is for.
     pub fn what(&self) -> What
         ensures { result ≡ self.now.what }
     {
         self.what
     }
 
-    /// What the request waits for.
+    /// Returns what the request waits for.
     #[tactic(auto, using(crate::proofs::Plain::plain_awaited))]
     pub fn awaited(&self) -> Awaited
         ensures value { result ≡ self.now.awaited }
@@ -136,7 +136,7 @@ impl Want {
         self.awaited
     }
 
-    /// Which delta update the request is for; none for the full playlist, and for media.
+    /// Returns which delta update the request is for; `None` for the full playlist and for media.
     #[tactic(auto, using(crate::proofs::Plain::plain_skip))]
     pub fn skip(&self) -> Option<SkipKind>
         ensures value { result ≡ self.now.skip }
@@ -145,7 +145,7 @@ impl Want {
         self.skip
     }
 
-    /// A want equal to this one, or an error where no memory was found.
+    /// Returns a copy, with texts of its own.
     pub fn copy(&self) -> Result<Want, AllocError>
         ensures { IfOk result (λ w. w ≡ self.now) }
     {

@@ -1,4 +1,4 @@
--- What it means that no rule refuses an item; and the IDs that are listed stand on one line each, since all of them were accepted.
+-- What it means that no rule refuses an item; and the IDs that are listed are on one line each, because all of them were accepted.
 use Rattle.std.proofs.Common.{◌≡◌, ℕ, ◌==◌, ◌||◌, List, [], ◌∷◌, ◌++◌, Bool, true, false, not, Option, Some, None, is_none, fold, refl, ap, ◌∙◌, length, bytes_eq, if◌then◌else◌}
 use Rattle.std.proofs.lemmas.Bool.{and_parts}
 use Rattle.std.proofs.lemmas.List.Elements.{All-append, All-cons, All-filter, All-head, All-nil, All-tail}
@@ -112,7 +112,7 @@ among : (id : List ℕ) (xs : List Listed) → list_any (λ (x : Listed). bytes_
 among id [] h lines = cc
 among id (x ∷ xs) h lines = same_line id x xs (bytes_eq id x.id) refl h lines (λ h. among id xs h (All-tail IsOnLine x xs lines))
 
--- an ID that may be taken away was listed, so it stands on one line
+-- an ID that may be taken away was listed, so it is on one line
 pub removed : (c : Configuration) (events : List Event) (r : ℕ) (id : List ℕ)
     → remove_refusal id (announced c (own r (items c events))) ≡ None → is_one_line id ≡ true
 removed c events r id h =

@@ -1,4 +1,4 @@
--- What happens on a channel doesn't turn on the bytes of its items: what media has in place of them is as long.
+-- What happens on a channel doesn't depend on the bytes of its items: what media has in place of them is as long.
 use Rattle.std.proofs.Common.{◌≡◌, ℕ, ◌+◌, ◌*◌, ◌==◌, ◌||◌, ◌&&◌, List, [], ◌∷◌, ◌++◌, Bool, true, false, not, cond, ◌^◌, Option, Some, None, is_none, is_some, option_and_then, option_map, refl, ap, ap₂, sym, ◌∙◌, length, map, filter, find, nat_le, if◌then◌else◌}
 use Rattle.std.proofs.lemmas.List.{length-map, length-replicate, map-append}
 use Rattle.std.specs.List.{list_any}
@@ -93,7 +93,7 @@ blank_settled (settled.Text page) = settled.Text page
 blank_settled settled.NotFound = settled.NotFound
 blank_settled settled.Timeout = settled.Timeout
 
--- a reply comes to the same
+-- a reply has the same outcome
 outcome-blank : (r : Reply) → outcome_of (blank_reply r) ≡ outcome_of r
 outcome-blank (now.Media piece) = ap (outcome.Media piece.number) (length-replicate (length piece.bytes) 0)
 outcome-blank (now.Text page) = refl
@@ -207,7 +207,7 @@ counted-blank n (Clock ms) = refl
 abbrev blank_slot : Slot → Slot
 blank_slot s = record s { settled = option_map blank_settled s.settled }
 
--- whether there is a reply doesn't turn on its bytes
+-- whether there is a reply doesn't depend on its bytes
 none-blank : (o : Option Settled) → is_none (option_map blank_settled o) ≡ is_none o
 none-blank None = refl
 none-blank (Some s) = refl
@@ -318,7 +318,7 @@ answered-blank c es want =
 asks-blank : (c : Configuration) (es : List Event) → asks (blank_events es) ≡ asks es
 asks-blank c es = ap (λ (s : State). s.asks) (state-blank c es)
 
--- what a reply comes to that had to wait
+-- the outcome of a reply to a request that had to wait
 abbrev settled_outcome : Settled → Outcome
 settled_outcome s = outcome_of (reply_of s)
 

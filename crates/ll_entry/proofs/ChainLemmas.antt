@@ -1,4 +1,4 @@
--- What the first three lines of a chunk come to.
+-- The chain that the first three lines of a chunk begin or go on with.
 use Rattle.std.proofs.Common.{◌≡◌, ℕ, ◌+◌, ◌==◌, List, [], ◌∷◌, Option, Result, refl, ap, ◌∙◌, length, arith}
 use Rattle.std.proofs.lemmas.List.Splits.{length-slice_split}
 use Rattle.ll_attr.specs.Words.{pieces_at}
@@ -6,7 +6,7 @@ use Rattle.ll_entry.specs.Chain.{Between, Chain, Inside, begun, checked_from, en
 use Rattle.ll_entry.specs.declared.fault.CheckFault.{CheckFault}
 use Rattle.ll_entry.specs.declared.fault.CheckKind.{CheckKind}
 
--- something always stands after a line's end, if only the empty text
+-- something always follows a line's end, if only the empty text
 pub ended-parts : (bytes : List ℕ) (before : Option Chain) (more : Result (Option Chain) CheckFault) → ended_line (pieces_at 10 bytes) before more ≡ more
 ended-parts bytes before more = by_list _ (pieces_at 10 bytes) (length-slice_split (λ b. b == 10) bytes)
   where

@@ -49,7 +49,7 @@ chunk_is : (c : Configuration) (n : ℕ) (lines rest : List ℕ)
 unfolding chunk_text header_text
 chunk_is c n lines rest = text_is (settings_line c) (at_line n) lines rest
 
--- ---- what the first three tell
+-- ---- what the first three say
 
 abbrev word : most < 2 ^ 64
 word = omega arith
@@ -101,7 +101,7 @@ self n = grind (arith, nat_tests)
 text_of : (line : List ℕ) → is_utf8 line ≡ true → text_in line ≡ Some line
 text_of line h = ap (λ b. let o : Option (List ℕ) = if b then Some line else None in o) h
 
--- the first three lines of a chunk tell its format, its settings and its place
+-- the first three lines of a chunk give its format, its settings and its place
 pub begun_is : (before : Option Chain) (v : Version) (c : Configuration) (settings : List ℕ) (n : ℕ) → settings_in settings ≡ Ok c → is_utf8 settings ≡ true → n ≤ most
     → begun before (text_in (first_line v)) (text_in settings) (text_in (at_line n)) ≡ joined_at before v c n
 begun_is before v c settings n read text few =
@@ -136,7 +136,7 @@ continued_is ch v c some older is =
 
 -- ---- the whole
 
--- a chunk of lines that lead on, after its first three lines came to this
+-- a chunk of lines that lead on, after its first three lines
 whole : (before : Option Chain) (c : Configuration) (n earlier : ℕ) (events after : List Event) (lines : List ℕ) → limit_broken c ≡ None
     → is_utf8 (settings_line c) ≡ true → n ≤ most → IsLed c events lines after → joined_at before Two c n ≡ Ok (chain_of c earlier events)
     → IsChunkOf before (chunk_text c n lines) (chain_of c earlier after)

@@ -27,7 +27,7 @@ without c text h = All-from_recursion (λ b. (b == c) ≡ false) text (by_recurs
 pub uncut : (c : ℕ) (text : List ℕ) → lacks c text ≡ true → pieces_at c text ≡ text ∷ []
 uncut c text h = slice_split_none (λ b. b == c) text (without c text h)
 
--- and the first part where the byte stands after it
+-- and the first part if the byte follows it
 pub cut_first : (c : ℕ) (text rest : List ℕ) → (c == c) ≡ true → lacks c text ≡ true → pieces_at c (text ++ (c ∷ rest)) ≡ text ∷ pieces_at c rest
 cut_first c text rest is h = slice_split_at (λ b. b == c) text c rest (without c text h) is
 
@@ -85,6 +85,6 @@ keyed key value k v = record {
 more_by : (word : List ℕ) (ws : List (List ℕ)) → (first : List ℕ) × (more : List (List ℕ)) × (ws ≡ first ∷ more) → has_more (word ∷ ws) ≡ true
 more_by word ws p = ap (λ ws. has_more (word ∷ ws)) p.2
 
--- where a text is cut, there is a word after the first
+-- if a text is cut, there is a word after the first
 pub more_words : (word text : List ℕ) → has_more (word ∷ words text) ≡ true
 more_words word text = more_by word (words text) (some_word text)

@@ -196,7 +196,7 @@ close_again c ask small = (
 media-laws : WordLaws media
 media-laws = number-laws media_limit (omega arith)
 
--- how many bytes an item has stands after the last space
+-- the number of an item's bytes follows the last space
 pub counted-again : (line : List ℕ) (n : ℕ) → n ≤ media_limit → counted (counted_line line n) ≡ Some (line, n)
 counted-again line n few =
     let word = number-word n (omega (arith, few)) in
@@ -272,7 +272,7 @@ few-bytes c (item.End r) h = omega arith
 few-bytes c (item.Range r id attributes) h = omega arith
 few-bytes c (item.Unrange r id) h = omega arith
 
--- so many zeros are as many bytes
+-- as many zeros are as many bytes
 as_many : (media : List ℕ) → length media ≤ media_limit → length (zeros (length media)) ≤ media_limit
 as_many media few = subst (λ n. n ≤ media_limit) (sym (length-replicate (length media) 0)) few
 

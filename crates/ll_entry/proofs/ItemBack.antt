@@ -22,7 +22,7 @@ use Rattle.ll_entry.proofs.Names.{name-word, name_at, named_back}
 use Rattle.ll_entry.proofs.Numbers.{number-back, number-word}
 use Rattle.ll_entry.proofs.RangeLine.{list-line}
 
--- a channel's rendition: its name is a word, and is told again
+-- a channel's rendition: its name is a word, and is read again
 record IsTold (c : Configuration) (name : List ℕ) (r : ℕ) : Type 0 where
   word : IsWord name
   back : named c name ≡ Ok r
@@ -33,7 +33,7 @@ told c r w inside = record {
   back = named_back c r w.renditions_named inside;
 }
 
--- what a line of this form comes to
+-- the item of a line of this form
 abbrev Comes : Configuration → List ℕ → Item → Type 0
 Comes c line item = (item_in c line (media_of item) ≡ Ok item) × (is_one_line line ≡ true)
 
@@ -143,7 +143,7 @@ end_back c name r t =
     let all : AreWords (codes "end" ∷ name ∷ []) = also (record { spaceless = refl; one_line = refl }) (also t.word no_more) in
     (ap (λ ws. item_of c ws []) (words_back (codes "end") (name ∷ []) all) ∙ ap end_at t.back, words_line (codes "end" ∷ name ∷ []) all)
 
--- a kind, a name, and what stands after it up to the line's end
+-- a kind, a name, and what follows it up to the line's end
 rest_words : (kind name text : List ℕ) → lacks 32 kind ≡ true → IsWord name → words (kind ++ (32 ∷ (name ++ (32 ∷ text)))) ≡ kind ∷ name ∷ words text
 rest_words kind name text k n = cut_first 32 kind (name ++ (32 ∷ text)) refl k ∙ ap (λ ws. kind ∷ ws) (cut_first 32 name text refl n.spaceless)
 

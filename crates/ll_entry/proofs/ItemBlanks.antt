@@ -1,4 +1,4 @@
--- What is told of items, and what is refused after them, doesn't turn on their bytes.
+-- What items say, and what is refused after them, doesn't depend on their bytes.
 use Rattle.std.proofs.Common.{◌≡◌, ℕ, ◌+◌, ◌*◌, ◌==◌, List, [], ◌∷◌, Bool, true, false, cond, Option, None, refl, ap, ap₂, ◌∙◌, length, map, filter, fold}
 use Rattle.ll_item.specs.Items.{blank, rendition_of}
 use Rattle.ll_item.specs.Settings.{Configuration, skip_limit}
@@ -50,7 +50,7 @@ kept_by : {X Y : Type 0} (f : X → Y) (b : Bool) (x : X) (xs : List X) → cond
 kept_by f true x xs = refl
 kept_by f false x xs = refl
 
--- of what a function makes, a test takes what it makes of what the same test takes before
+-- a test of what a function makes takes what the function makes of what the same test takes before
 pub filter-same : {X Y : Type 0} (f : X → Y) (p : X → Bool) (q : Y → Bool) → ((x : X) → q (f x) ≡ p x)
     → (xs : List X) → filter q (map f xs) ≡ map f (filter p xs)
 filter-same f p q same [] = refl
@@ -62,7 +62,7 @@ filter-same f p q same (x ∷ xs) =
 pub own-blank : (r : ℕ) (xs : List Item) → own r (map blank xs) ≡ map blank (own r xs)
 own-blank r xs = filter-same blank (λ i. rendition_of i == r) (λ i. rendition_of i == r) (λ i. ap (λ n. n == r) (rendition-blank i)) xs
 
--- what a window keeps is told by all parts, as segments, and by what else is told of the items
+-- what a window keeps depends on all parts, as segments, and on what else the items say
 abbrev pub finished_of : Told → List (List Part)
 finished_of t = finished_by t.ended (split t.parts)
 

@@ -35,7 +35,7 @@ cut-line line rest h = slice_split_at (λ b. b == 10) line 10 rest (All-from_rec
 
 -- ---- one more line
 
--- what a chunk comes to with one more line, where that is its last one or not
+-- the result of a chunk with one more line, whether that is its last one or not
 abbrev line_of : Chain → List ℕ → List ℕ → Bool → Result (Option Chain) CheckFault
 line_of ch line rest last =
     cond last (checked_from (Between (Some ch)) (pieces_at 10 rest)) (go_on (Some ch) (with_line ch line) (λ now. checked_from (Inside now) (pieces_at 10 rest)))

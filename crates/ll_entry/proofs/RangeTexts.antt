@@ -1,4 +1,4 @@
--- The attribute list of a date range is read again with its ID in front, since no other attribute has that name.
+-- The attribute list of a date range is read again with its ID in front, because no other attribute has that name.
 use Rattle.std.proofs.Common.{◌≡◌, ◌≢◌, ℕ, true, List, [], ◌∷◌, ◌++◌, refl, ap, ◌∙◌, append_assoc, codes, Ok}
 use Rattle.ll_attr.specs.Attributes.{attributes_in, spelling}
 use Rattle.ll_attr.specs.declared.attributes.Attribute.{Attribute}
@@ -14,7 +14,7 @@ some_read id a more (b ∷ bs) is allowed e read =
     ∙ ap (λ t. attributes_in (codes "ID=\"" ++ (id ++ (codes "\"" ++ 44 ∷ t)))) e
     ∙ read-with_id id (b ∷ bs) (a ∷ more) is read allowed
 
--- attributes that a date range may have, of which one at least stands there, are read again with its ID
+-- attributes that a date range may have, at least one of them, are read again with its ID
 pub with-id-read : (id : List ℕ) (list : List Attribute) → is_id id ≡ true → are_allowed list ≡ true → (list ≢ [] → attributes_in (spelling list) ≡ Ok list)
     → attributes_in (spelling (with_id id list)) ≡ Ok (with_id id list)
 with-id-read id [] is allowed read = cc

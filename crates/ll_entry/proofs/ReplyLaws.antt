@@ -53,7 +53,7 @@ dash_by text true is h = absurd (let e : lacks 45 (codes "-") ≡ true = subst (
 no_dash : (text : List ℕ) → lacks 45 text ≡ true → bytes_eq text (codes "-") ≡ false
 no_dash text h = dash_by text (bytes_eq text (codes "-")) refl h
 
--- a number of a record, or none, may stand where a dash is none
+-- a number of a record, or none, is allowed where a dash is none
 pub count-within : (n : ℕ) → n ≤ most → WithinDash count (Some n)
 count-within n small = (small, no_dash (decimal n) (number-lacks 45 most n refl in_word small))
 
@@ -140,7 +140,7 @@ counts-laws : (v : Version) → WordLaws (counts v)
 counts-laws One = no_word-laws
 counts-laws Two = whole-laws (spaced-laws (up_to-laws 32 count-laws count-lacks) (to_end-laws count-laws)) (λ p. refl)
 
--- ---- what a reply comes to
+-- ---- the outcome of a reply
 
 abbrev IsTold : Version → List ℕ → Outcome → Type 0
 IsTold v text o = (text ≡ outcome_text v o) × OutcomeWithin v o
@@ -204,7 +204,7 @@ outcome-laws v = record {
   inside = λ o h. outcome_inside v o h;
 }
 
--- ---- what a request got at once
+-- ---- the outcome of a request at once
 
 not_held : (v : Version) (o : Outcome) → bytes_eq (outcome_text v o) (codes "held") ≡ false
 not_held v (Text n u) = refl

@@ -65,7 +65,7 @@ field_words c w s =
 number_after : (key : List ℕ) (n : ℕ) → n < 2 ^ 64 → number_of key (key ++ decimal n) ≡ Some n
 number_after key n small = ap (option_and_then (number_in 20)) (key_again key (decimal n)) ∙ number-back n small
 
--- what the options of a line's words come to where each holds the configuration's value
+-- the settings that a line's words give, if each option has the configuration's value
 gathered : (c : Configuration) (channel : Option (List ℕ)) (target part skip window first start : Option ℕ)
     → channel ≡ Some c.channel → target ≡ Some c.target → part ≡ Some c.part_target → skip ≡ Some c.skip → window ≡ Some c.window
     → first ≡ Some c.first → start ≡ Some c.start → names_in (names_text c.renditions) ≡ c.renditions

@@ -1,4 +1,4 @@
--- Where items have zeros in place of their bytes, the media that is there has zeros in place of its bytes.
+-- If items have zeros in place of their bytes, the media that is there has zeros in place of its bytes.
 use Rattle.std.proofs.Common.{◌≡◌, ℕ, ◌-◌, ◌==◌, List, [], ◌∷◌, ◌++◌, Bool, true, false, not, cond, Option, Some, None, refl, ap, ap₂, sym, ◌∙◌, length, map, drop, take, find, nat_le, filter, option_and_then, option_map, slice_get}
 use Rattle.std.proofs.lemmas.List.{drop-map, length-append, length-map, map-append, replicate-append-replicate, take-map}
 use Rattle.std.proofs.lemmas.Option.{slice_get-map}

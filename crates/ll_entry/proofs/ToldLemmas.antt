@@ -1,5 +1,5 @@
--- An entry in which nothing is wrong after some events is the one of its event, as its format tells it; and in the entry of an event, as a
--- format tells it, nothing is wrong.
+-- An entry in which nothing is wrong after some events is the one of its event, as its format keeps it; and in the entry of an event, as a
+-- format keeps it, nothing is wrong.
 use Rattle.std.proofs.Common.{◌≡◌, ℕ, ◌+◌, ◌^◌, ◌==◌, ◌&&◌, ◌||◌, List, [], ◌∷◌, ◌++◌, Bool, true, false, not, cond, Option, Some, None, is_none, is_some, refl, ap, ap₂, ◌∙◌, sym, length, map, find, nat_le, option_and_then, option_map, subst, suc, arith}
 use Rattle.std.proofs.lemmas.Bool.{and_parts, not-true}
 use Rattle.std.proofs.lemmas.Bool.Decides.{nat_tests}
@@ -149,7 +149,7 @@ settled-is c before ask =
 open-is : (c : Configuration) (before : List Event) (ask : ℕ) → is_open_after c before ask ≡ list_any (λ (r : Request). r.ticket == ask) (open_requests c before)
 open-is c before ask = any-map (slot_of c before) (has_ticket ask) (open_requests c before)
 
--- ---- what a format tells
+-- ---- what a format keeps
 
 told_at_once : (v : Version) (o : Option Reply) → option_map (told_in v) (option_map outcome_of o) ≡ option_map (λ r. told_in v (outcome_of r)) o
 told_at_once v None = refl
@@ -163,7 +163,7 @@ told_out : (v : Version) (ask : ℕ) (o : Option Outcome) → option_map (as_tol
 told_out v ask None = refl
 told_out v ask (Some reply) = refl
 
--- format 2 tells all of it
+-- format 2 keeps all of it
 pub whole-outcome : (o : Outcome) → told_in Two o ≡ o
 whole-outcome (Text n u) = refl
 whole-outcome (Media n size) = refl

@@ -1,4 +1,4 @@
--- Kind by kind: what the rules ask of an accepted item is what its line needs.
+-- Kind by kind: what the rules demand of an accepted item is what its line needs.
 use Rattle.std.proofs.Common.{◌≡◌, ℕ, ◌<◌, ◌≤◌, ◌^◌, List, [], ◌∷◌, Bool, true, false, Option, None, Some, arith}
 use Rattle.std.proofs.lemmas.Bool.Decides.{nat_tests}
 use Rattle.ll_item.proofs.WithinLimits.{within}
@@ -14,13 +14,13 @@ use Rattle.ll_window.specs.Compact.{clock, compact}
 use Rattle.ll_window.specs.Refusal.{break_refusal, part_refusal, refusal_before_end, refusal_by}
 use Rattle.ll_item.specs.Told.{end_time}
 use Rattle.ll_window.specs.Segments.{ended, open_segment, own}
-use Rattle.ll_window.specs.declared.fault.PushFault.{PushFault}
+use Rattle.ll_window.specs.declared.fault.WindowFault.{WindowFault}
 use Rattle.ll_entry.specs.Writable.{ItemWritableLaw}
 use Rattle.ll_verdict.proofs.AcceptedLemmas.{IsTaken}
 use Rattle.ll_entry.proofs.AcceptedItems.{added, is-taken, removed}
 use Rattle.ll_entry.proofs.RangeTexts.{with-id-read}
 
-before_end : (b : Bool) (o : Option PushFault) → refusal_by b o ≡ None → o ≡ None
+before_end : (b : Bool) (o : Option WindowFault) → refusal_by b o ≡ None → o ≡ None
 before_end true o h = cc
 before_end false o h = h
 

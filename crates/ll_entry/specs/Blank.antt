@@ -27,7 +27,7 @@ blank_event (Clock ms) = Clock ms
 abbrev pub blank_events : List Event → List Event
 blank_events events = map blank_event events
 
--- Whatever the bytes are, the same is right and wrong: a record that tells their number alone can be checked.
+-- Whatever the bytes are, the same is right and wrong: a record with their number alone can be checked.
 abbrev pub BlankLaw : Type 0
 BlankLaw = (version : Version) (c : Configuration) (events : List Event) (entry : Recorded)
     → fault_in version c (blank_events events) (blank_entry entry) ≡ fault_in version c events entry

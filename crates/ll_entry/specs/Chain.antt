@@ -1,5 +1,5 @@
--- Chains of chunks: the record of one channel from its start on, cut into pieces; and after it that of the channel from another start on, as
--- a program writes it that was started again.
+-- Chains of chunks: the record of one channel from its start on, cut into pieces; after it, that of the channel from another start on, as a
+-- program writes it that was started again.
 use Rattle.std.specs.Prelude.{ℕ, ◌+◌, ◌==◌, List, [], ◌∷◌, ◌++◌, Bool, true, not, Option, Some, None, Result, Ok, Err, length, nat_le, bytes_eq, if◌then◌else◌}
 use Rattle.std.specs.Str.{is_utf8}
 use Rattle.ll_attr.specs.Words.{pieces_at}
@@ -18,18 +18,18 @@ use Rattle.ll_entry.specs.declared.fault.CheckFault.{CheckFault}
 use Rattle.ll_entry.specs.declared.fault.CheckKind.{CheckKind}
 use Rattle.ll_entry.specs.declared.fault.CheckKind.TheVariants.{BadChunk, Gap, OtherChannel, Refused, Memory}
 
--- what the chunks so far tell, of which there are some
+-- what the chunks so far say, of which there are some
 pub record Chain : Type 0 where
   -- the settings of the chain that the last chunk is of
   pub settings : Configuration
   -- the format of the last chunk
   pub version : Version
-  -- how many entries the chains before this one have
+  -- the number of entries of the chains before this one
   pub earlier : ℕ
   -- one for each entry of this chain
   pub events : List Event
 
--- how many entries all chains so far have
+-- the number of entries of all chains so far
 abbrev pub entries : Option Chain → ℕ
 entries None = 0
 entries (Some ch) = ch.earlier + length ch.events
@@ -50,7 +50,7 @@ abbrev pub another : Option Chain → Version → Configuration → Result Chain
 another before v c =
     if is_channel before c then Ok (record { settings = c; version = v; earlier = entries before; events = [] }) else Err OtherChannel
 
--- the same chain, of which so many entries stand before the chunk
+-- the same chain, of which `at` entries come before the chunk
 abbrev pub continued : Option Chain → Version → Configuration → ℕ → Result Chain CheckKind
 continued None v c at = Err Gap
 continued (Some ch) v c at =
@@ -68,7 +68,7 @@ begun_by before (Some v) (Ok c) (Some at) = joined_at before v c at
 begun_by before v settings at = Err BadChunk
 
 -- the chain of a chunk that begins with these lines: `#LLHLS-CHUNK 1` or `#LLHLS-CHUNK 2`, a settings line, and `at N` with the number of
--- its entries before it
+-- its chain's entries before it
 abbrev pub begun : Option Chain → Option (List ℕ) → Option (List ℕ) → Option (List ℕ) → Result Chain CheckKind
 begun before (Some first) (Some settings) (Some at) = begun_by before (version.read first) (settings_in settings) (place.read at)
 begun before first settings at = Err BadChunk
@@ -92,13 +92,13 @@ abbrev pub entry_at : Version → Configuration → Option (List ℕ) → Result
 entry_at v c None = Err entry.BadLine
 entry_at v c (Some line) = entry_in v c line
 
--- the chain with the event that a line's entry tells
+-- the chain with the event of a line's entry
 abbrev pub with_line : Chain → List ℕ → Result Chain CheckKind
 with_line ch line = joined ch (entry_at ch.version ch.settings (text_in line))
 
 -- ---- whole chunks
 
--- at which entry chains aren't right, and how
+-- at which entry chains are wrong, and how
 abbrev pub wrong : Option Chain → CheckKind → Result (Option Chain) CheckFault
 wrong before kind = Err (record { entry = entries before + 1; kind = kind })
 
@@ -106,7 +106,7 @@ abbrev pub go_on : Option Chain → Result Chain CheckKind → (Chain → Result
 go_on before (Err kind) from = wrong before kind
 go_on before (Ok ch) from = from ch
 
--- each line has an end: what stands after the last end is no line
+-- each line has an end: what follows the last end is no line
 abbrev pub ended_line : List (List ℕ) → Option Chain → Result (Option Chain) CheckFault → Result (Option Chain) CheckFault
 ended_line [] before more = wrong before BadChunk
 ended_line (next ∷ rest) before more = more
@@ -120,7 +120,7 @@ pub data Position : Type 0 where
   -- after a chunk's first three lines
   Inside : Chain → Position
 
--- what the chains so far come to with these lines, the last of which has no end
+-- the chains so far with these lines, the last of which has no end
 abbrev pub checked_from : Position → List (List ℕ) → Result (Option Chain) CheckFault
 checked_from (Between before) [] = wrong before BadChunk
 checked_from (Between before) (rest ∷ []) = nothing_after before rest
@@ -139,14 +139,14 @@ abbrev pub not_before : ℕ → Result (Option Chain) CheckFault → Bool
 not_before entry (Ok chains) = true
 not_before entry (Err fault) = nat_le entry fault.entry
 
--- how many entries they have: there is one chunk or more
+-- the number of entries: there is one chunk or more
 abbrev pub counted : Result (Option Chain) CheckFault → Result ℕ CheckFault
 counted (Err fault) = Err fault
 counted (Ok None) = Err (record { entry = 1; kind = BadChunk })
 counted (Ok (Some ch)) = Ok (entries (Some ch))
 
--- How many entries these bytes have, where they are faithful chains: one or more chunks of one channel, of which each begins a chain or goes
--- on with one, in which every entry tells an event that can happen after those before it in its chain, with the reply that it should have. Or
--- the first entry at which they aren't, and how.
+-- The number of entries of these bytes, if they are faithful chains: one or more chunks of one channel, each of which begins a chain or
+-- goes on with one, in which every entry has an event that can happen after those before it in its chain, with the reply that it should
+-- have. Else the first entry at which they are wrong, and how.
 abbrev pub checked : List ℕ → Result ℕ CheckFault
 checked bytes = counted (checked_from (Between None) (pieces_at 10 bytes))

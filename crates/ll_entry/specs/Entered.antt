@@ -21,7 +21,7 @@ use Rattle.ll_verdict.specs.declared.reply.Settled.{Settled}
 use Rattle.ll_entry.specs.declared.fault.CheckKind.{CheckKind}
 use Rattle.ll_entry.specs.declared.fault.CheckKind.TheVariants.{Refused, WrongReply}
 
--- the event that an entry tells
+-- the event of an entry
 abbrev pub event_of : Recorded → Event
 event_of (recorded.Publish item) = Publish item
 event_of (recorded.Ask ask want reply) = Ask want
@@ -44,17 +44,17 @@ same_outcome Busy Busy = true
 same_outcome Timeout Timeout = true
 same_outcome a b = false
 
--- whether two replies come to the same, or both requests wait
+-- whether two replies have the same outcome, or both requests wait
 abbrev pub same_answer : Option Outcome → Option Outcome → Bool
 same_answer None None = true
 same_answer (Some a) (Some b) = same_outcome a b
 same_answer a b = false
 
--- whether a request of this number is open after these events
+-- whether the request with the number `ask` is open after these events
 abbrev pub is_open_after : Configuration → List Event → ℕ → Bool
 is_open_after c events ask = list_any (has_ticket ask) (state_of c events).slots
 
--- what a request that had to wait comes to, where its reply waits
+-- the outcome of a request that had to wait, if its reply is there
 abbrev pub settled_after : Configuration → List Event → ℕ → Option Outcome
 settled_after c events ask = option_map (λ (s : Settled). outcome_of (reply_of s)) (reply_at ask (state_of c events).slots)
 
@@ -66,10 +66,10 @@ unless_refused (Some fault) = Some Refused
 abbrev pub where_it_can : Bool → Bool → Option CheckKind
 where_it_can can right = if can then (if right then None else Some WrongReply) else Some Refused
 
--- What is wrong with an entry after these events of its channel, or none. An item is right where no rule refuses it; a request where its
--- number is the next, and it gets at once what it should or waits; a reading up to 2^60 milliseconds; a reply that is handed out where
--- its request is open and has just this reply; a request that is given up where it is open. Of a reply counts what the format tells of it.
--- A channel that has taken as many events as it takes refuses items, requests and readings.
+-- What is wrong with an entry after these events of its channel, or none. An item is right if no rule refuses it; a request if its number
+-- is the next, and it gets at once what it should or waits; a reading up to 2^60 milliseconds; a reply that is handed out if its request is
+-- open and has exactly this reply; a request that is closed if it is open. Of a reply counts what the format keeps of it. A channel that
+-- has taken as many events as it can refuses items, requests and readings.
 abbrev pub fault_in : Version → Configuration → List Event → Recorded → Option CheckKind
 fault_in version c events (recorded.Publish item) = unless_refused (refusal_after c events item)
 fault_in version c events (recorded.Ask ask want reply) =

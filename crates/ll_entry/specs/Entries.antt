@@ -1,4 +1,4 @@
--- The entries of a record, in each format: each tells one event of a channel, and what the reply came to where there was one.
+-- The entries of a record, in each format: each has one event of a channel, and the outcome of its reply if there was one.
 use Rattle.std.specs.Prelude.{ℕ, List, [], ◌∷◌, ◌&&◌, ◌||◌, Bool, true, false, Option, Some, None, Result, Ok, Err, codes, if◌then◌else◌, is_some}
 use Rattle.ll_attr.specs.Words.{after, words}
 use Rattle.ll_directive.specs.Targets.{WantValue, media_want}
@@ -33,8 +33,8 @@ reply_fields version = spaced (up_to 32 update) (to_end (or_held version))
 abbrev pub place_fields : Version → Format (Option ℕ × (Option ℕ × (Option SkipKind × Option Outcome)))
 place_fields version = spaced (up_to 32 (or_dash count)) (spaced (up_to 32 (or_dash count)) (reply_fields version))
 
--- `ASK RENDITION MSN PART SKIP REPLY`: the number of a request for a playlist, the name of a rendition, what is awaited of it, which playlist
--- is asked for, and what came at once
+-- `ASK RENDITION MSN PART SKIP REPLY`: the number of a request for a playlist, the name of a rendition, what is awaited of it, which
+-- playlist is asked for, and the outcome at once
 abbrev pub ask_fields : Version → Format (ℕ × (List ℕ × (Option ℕ × (Option ℕ × (Option SkipKind × Option Outcome)))))
 ask_fields version = spaced (up_to 32 count) (spaced (up_to 32 name) (place_fields version))
 
@@ -42,7 +42,7 @@ ask_fields version = spaced (up_to 32 count) (spaced (up_to 32 name) (place_fiel
 abbrev pub file_fields : Format (What × Option Outcome)
 file_fields = spaced (up_to 32 file) (to_end (or_held Two))
 
--- `ASK RENDITION FILE REPLY`: the number of a request for media, the name of a rendition, that of a file, and what came at once
+-- `ASK RENDITION FILE REPLY`: the number of a request for media, the name of a rendition, that of a file, and the outcome at once
 abbrev pub media_fields : Format (ℕ × (List ℕ × (What × Option Outcome)))
 media_fields = spaced (up_to 32 count) (spaced (up_to 32 name) file_fields)
 
@@ -50,7 +50,7 @@ media_fields = spaced (up_to 32 count) (spaced (up_to 32 name) file_fields)
 abbrev pub collect_fields : Version → Format (ℕ × Outcome)
 collect_fields version = spaced (up_to 32 count) (to_end (outcome version))
 
--- this request, where the names of the channel and of the rendition have a name's form
+-- this request, if the names of the channel and of the rendition have a name's form
 abbrev pub where_named : Configuration → List ℕ → WantValue → Option WantValue
 where_named c rendition want = if is_name c.channel && is_name rendition then Some want else None
 
@@ -108,24 +108,24 @@ has_time (Some text) = has_more (words text)
 abbrev pub is_timed_break : List ℕ → Bool
 is_timed_break text = has_time (after (codes "break ") text)
 
--- so many bytes as an item may have, without leading zeros
+-- the number of an item's bytes, without leading zeros
 abbrev pub media : Word ℕ
 media = number media_limit
 
 abbrev pub measured : List ℕ × List ℕ → Option (List ℕ × ℕ)
 measured (text, word) = media.read word >>= λ n. Some (text, n)
 
--- an item's line, and how many bytes it has, where this number stands after it
+-- an item's line and the number of its bytes, if this follows it
 abbrev pub counted : List ℕ → Option (List ℕ × ℕ)
 counted text = cut_last text >>= measured
 
--- The line of an item in an entry, and how many bytes it has. In format 2 this number stands after the line of a part and of an initialization
--- section; format 1 knows no initialization sections, no finishes and no breaks that set a time, and tells no bytes of parts.
+-- The line of an item in an entry, and the number of its bytes. In format 2 this number follows the line of a part and of an initialization
+-- section; format 1 has no initialization sections, no finishes and no breaks that set a time, and no bytes of parts.
 abbrev pub item_text : Version → List ℕ → Option (List ℕ × ℕ)
 item_text One text = if is_init_line text || is_finish_line text || is_timed_break text then None else Some (text, 0)
 item_text Two text = if is_part_line text || is_init_line text then counted text else Some (text, 0)
 
--- an item of so many bytes: these are told by their number alone, and zeros stand for them
+-- an item of this number of bytes, in place of which it has zeros
 abbrev pub publish_by : Configuration → Option (List ℕ × ℕ) → Result Recorded EntryFault
 publish_by c None = Err BadLine
 publish_by c (Some (text, n)) = published (item_in c text (zeros n))
@@ -141,7 +141,7 @@ short_in version line =
 abbrev pub ask_in : Version → Configuration → List ℕ → Option Recorded
 ask_in version c text = (ask_fields version).read text >>= ask_of version c
 
--- `ASK RENDITION FILE REPLY`: format 1 knows no requests for media
+-- `ASK RENDITION FILE REPLY`: format 1 has no requests for media
 abbrev pub media_in : Version → Configuration → List ℕ → Option Recorded
 media_in One c text = None
 media_in Two c text = media_fields.read text >>= media_of c

@@ -14,7 +14,7 @@ first_line Two = codes "#LLHLS-CHUNK 2"
 abbrev pub version : Word Version
 version = one_of first_line (One ∷ Two ∷ [])
 
--- the third line, `at N`: how many entries of its chain stand before the chunk
+-- the third line, `at N`: how many entries of its chain come before the chunk
 abbrev pub place : Word ℕ
 place = record {
   print = λ n. codes "at " ++ decimal n;

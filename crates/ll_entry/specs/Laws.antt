@@ -1,4 +1,4 @@
--- What is written is read again.
+-- What is written of an entry is read again.
 use Rattle.std.specs.Prelude.{◌≡◌, None, Ok, true, false, bytes_eq}
 use Rattle.ll_format.specs.Words.{is_one_line}
 use Rattle.ll_item.specs.Settings.{Configuration, limit_broken}

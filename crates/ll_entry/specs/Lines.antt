@@ -28,11 +28,11 @@ part_of Nothing = None
 part_of (Segment msn) = None
 part_of (Part msn part) = Some part
 
--- what the line of a request for a playlist tells
+-- the fields of the line of a request for a playlist
 abbrev pub ask_values : ℕ → WantValue → Option Outcome → ℕ × (List ℕ × (Option ℕ × (Option ℕ × (Option SkipKind × Option Outcome))))
 ask_values ask want reply = (ask, (want.rendition, (msn_of want.awaited, (part_of want.awaited, (want.skip, reply)))))
 
--- what the line of a request for media tells
+-- the fields of the line of a request for media
 abbrev pub media_values : ℕ → WantValue → Option Outcome → ℕ × (List ℕ × (What × Option Outcome))
 media_values ask want reply = (ask, (want.rendition, (want.what, reply)))
 
@@ -66,7 +66,7 @@ abbrev pub WantWithin : Configuration → WantValue → Type 0
 WantWithin c want =
     (want.channel ≡ c.channel) × (is_name want.rendition ≡ true) × AwaitedWithin want.awaited × WhatWithin want.what × IsPlain want
 
--- which entries are spelled so that they are read again: the numbers are below 2^64, and the names are names
+-- the entries that are read again: the numbers are below 2^64, and the names are names
 abbrev pub IsSpelled : Configuration → Recorded → Type 0
 IsSpelled c (Publish item) = IsWritable c item
 IsSpelled c (Ask ask want reply) = (ask ≤ most) × WantWithin c want × HeldWithin Two reply

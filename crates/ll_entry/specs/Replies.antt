@@ -1,4 +1,4 @@
--- How a record tells what a reply comes to, and what a request asks for, in each format.
+-- How a record spells the outcome of a reply, and what a request asks for, in each format.
 use Rattle.std.specs.Prelude.{◌≡◌, ◌≤◌, ℕ, List, [], ◌∷◌, ◌++◌, false, Option, Some, None, bytes_eq, codes, if◌then◌else◌, option_map}
 use Rattle.ll_attr.specs.Words.{after}
 use Rattle.ll_directive.specs.Files.{file_name, media_file}
@@ -35,7 +35,7 @@ abbrev pub WithinDash : {A : Type 0} → Word A → Option A → Type 0
 WithinDash w None = Unit {0}
 WithinDash w (Some x) = w.Within x × (bytes_eq (w.print x) (codes "-") ≡ false)
 
--- which files of media have names that are read again
+-- the files of media whose names are read again
 abbrev pub FileWithin : What → Type 0
 FileWithin what.Playlist = ⊥
 FileWithin (what.Segment number) = number ≤ most
@@ -66,12 +66,12 @@ kind = one_of kind_name (Yes ∷ V2 ∷ [])
 abbrev pub update : Word (Option SkipKind)
 update = or_dash kind
 
--- which delta update a request asked for that is recorded so: in format 1 one for `v2` was answered as one for `YES`
+-- which delta update a request asked for that is recorded with `skip`: in format 1 one for `v2` was answered as one for `YES`
 abbrev pub asked_for : Version → Option SkipKind → Option SkipKind
 asked_for One skip = option_map (λ kind. Yes) skip
 asked_for Two skip = skip
 
--- What a record tells of what a reply comes to: in format 1 not which delta update a playlist is.
+-- What a record keeps of the outcome of a reply: in format 1 not which delta update a playlist is.
 abbrev pub told_in : Version → Outcome → Outcome
 told_in One (Text n skip) = Text n None
 told_in Two (Text n skip) = Text n skip
@@ -81,11 +81,11 @@ told_in version TooFar = TooFar
 told_in version Busy = Busy
 told_in version Timeout = Timeout
 
--- a word up to the next space, and what stands after the space
+-- a word up to the next space, and what follows the space
 abbrev pub spaced : {A B : Type 0} → Format A → Format B → Format (A × B)
 spaced f g = beside f (after_key (codes " ") g)
 
--- `N`, of a playlist of which no more is told
+-- `N`, of a playlist of which no more is said
 abbrev pub count_alone : Word (ℕ × Option SkipKind)
 count_alone = record {
   print = λ p. count.print p.0;
@@ -98,11 +98,11 @@ abbrev pub playlist : Version → Word (ℕ × Option SkipKind)
 playlist One = count_alone
 playlist Two = whole (spaced (up_to 32 count) (to_end update))
 
--- nothing that can be told
+-- nothing that can be said
 abbrev pub no_word : {A : Type 0} → Word A
 no_word = record { print = λ x. []; read = λ text. None; Within = λ x. ⊥ }
 
--- how many items media comes after, and how many bytes it has: format 1 knows no media, it is `N LENGTH` in format 2
+-- how many items media comes after, and how many bytes it has: format 1 has no media, it is `N LENGTH` in format 2
 abbrev pub counts : Version → Word (ℕ × ℕ)
 counts One = no_word
 counts Two = whole (spaced (up_to 32 count) (to_end count))
@@ -154,7 +154,7 @@ abbrev pub HeldWithin : Version → Option Outcome → Type 0
 HeldWithin version None = Unit
 HeldWithin version (Some o) = OutcomeWithin version o
 
--- what a request got at once, or `held`
+-- the outcome of a request at once, or `held`
 abbrev pub or_held : Version → Word (Option Outcome)
 or_held version = record {
   print = or_held_text version;

@@ -1,3 +1,4 @@
+//! An entry of a record, as a value.
 use ll_directive::Want;
 use ll_item::{Item, ItemFault};
 use ll_verdict::Outcome;
@@ -6,26 +7,26 @@ use std::alloc::AllocError;
 /// An entry of a channel's record.
 #[derive(Drop)]
 pub enum Recorded {
-    /// This item was accepted.
+    /// An item that was accepted.
     Publish(Item),
-    /// The request of this number was made, from 1, and what it got at once; none where it was held.
+    /// A request, with its number, from 1, and its outcome at once; `None` if it was held.
     Ask(u64, Want, Option<Outcome>),
-    /// The clock showed so many milliseconds.
+    /// A reading of the clock, in milliseconds.
     Clock(u64),
-    /// The reply to the request of this number was handed out.
+    /// A reply that was handed out, with the number of its request and its outcome.
     Collect(u64, Outcome),
-    /// The request of this number was given up.
+    /// The close of the request with this number.
     Close(u64),
 }
 
 /// Why a line is no entry of a channel's record.
 #[derive(Clone, Copy, PartialEq, Eq)]
 pub enum EntryFault {
-    /// It hasn't the form of one.
+    /// It hasn't the form of an entry.
     BadLine,
-    /// Its item is none of this channel.
+    /// Its item isn't one of this channel.
     Refused,
-    /// No memory was found. It comes after the other faults.
+    /// Out of memory, which comes after the other faults.
     Memory,
 }
 

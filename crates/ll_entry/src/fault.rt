@@ -1,8 +1,10 @@
+//! How chunks of a record can be wrong.
 use crate::entry::EntryFault;
 use std::alloc::AllocError;
 use thiserror::Error;
 
-/// How a chain of chunks isn't right: the first of these that applies to the line it is found at. A chunk's first three lines count as one.
+/// How a chain of chunks is wrong: the first of these that applies to the line at which it is found. A chunk's first three lines count as
+/// one.
 #[derive(Clone, Copy, Debug, PartialEq, Eq, Error)]
 pub enum CheckKind {
     /// A line isn't of its form, or the end of the chunk is missing.
@@ -14,23 +16,23 @@ pub enum CheckKind {
     /// A chunk is of another channel, or of other settings.
     #[error("OtherChannel")]
     OtherChannel,
-    /// An entry tells what can't have happened.
+    /// An entry says what can't have happened.
     #[error("Refused")]
     Refused,
-    /// An entry tells another reply than the right one.
+    /// An entry has another reply than the right one.
     #[error("WrongReply")]
     WrongReply,
-    /// No memory was found.
+    /// Out of memory.
     #[error("Memory")]
     Memory,
 }
 
-/// Where a chain of chunks isn't right, and how.
+/// Where and how a chain of chunks is wrong.
 #[derive(Clone, Copy, Debug, PartialEq, Eq)]
 pub struct CheckFault {
     /// The number of the entry, from 1: one more than the entries that are right.
     pub entry: u64,
-    /// How it isn't right.
+    /// How it is wrong.
     pub kind: CheckKind,
 }
 

@@ -10,8 +10,8 @@ use std::alloc::{AllocError, Global};
 /// The last line of each chunk.
 pub const LAST_LINE: &str = "#END";
 
-/// The first three lines of a chunk in this format, of which the second is the settings line: whose it is, and how many entries of its chain
-/// stand before it.
+/// Returns the first three lines of a chunk in this format. `settings` is the second, the settings line; `at` is the number of entries of
+/// its chain before the chunk.
 #[tactic(auto, unfolding(crate::specs::Frame::header_text))]
 pub fn header_text(
     alloc: Global,
@@ -25,7 +25,7 @@ pub fn header_text(
     format!(in alloc; "{first}\n{settings}\nat {at}\n")
 }
 
-/// How many entries of its chain stand before a chunk that has this third line, `at N`.
+/// Returns how many entries of its chain are before a chunk whose third line is `line`, `at N`; `None` if it is no such line.
 pub fn place_in(line: &str) -> Option<u64>
     ensures { result ≡ spec.place.read line.now }
 {

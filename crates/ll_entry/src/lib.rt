@@ -1,6 +1,6 @@
-//! The entries of a channel's record, and the lines that spell them. Each entry tells one event, and what the reply came to where there
-//! was one; an item and the settings of a channel have lines that `ll_item` reads back. Lines that are written one after another make
-//! chunks that a check finds right. Entries are written in format 2, and read in formats 1 and 2.
+//! The entries of a channel's record, and the lines that spell them. Each entry has one event, and the outcome of its reply if there was
+//! one; an item and the settings of a channel have lines that `ll_item` reads back. Lines that are written one after another make chunks
+//! that a check finds right. Entries are written in format 2, and read in formats 1 and 2.
 #![tactic(auto)]
 
 mod entry;

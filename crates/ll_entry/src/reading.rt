@@ -1,4 +1,4 @@
-//! Lines read as entries.
+//! How lines are read as entries.
 ghost use Rattle.std.specs.Prelude.{◌≡◌, ◌≢◌, ◌<◌, ◌≤◌, IfErr, IfOk, IsErrOf, IsOk, MatchOption, Ok, Err, IfSome, None, Some, [], is_some, true};
 ghost use Rattle.std.specs.Option.{option_map};
 ghost use Rattle.ll_item.specs.Names.{is_name};
@@ -19,8 +19,8 @@ use ll_verdict::Outcome;
 use std::alloc::Global;
 
 impl Recorded {
-    /// The entry that a line of the record of this channel spells in this format: `P ITEM`, `A ASK RENDITION MSN PART SKIP REPLY`,
-    /// `M ASK RENDITION FILE REPLY`, `C MILLISECONDS`, `G ASK REPLY` or `X ASK`; or why there is none. Memory that isn't found comes after the other faults.
+    /// Parses a line of the record of a channel with these settings: `P ITEM`, `A ASK RENDITION MSN PART SKIP REPLY`, `M ASK RENDITION FILE
+    /// REPLY`, `C MILLISECONDS`, `G ASK REPLY` or `X ASK`. Returns the entry, or why there is none; Memory comes after the other faults.
     pub fn read(
         alloc: Global,
         version: Version,
@@ -44,7 +44,7 @@ impl Recorded {
     }
 }
 
-/// The item that a text tells of, as an entry has it.
+/// Parses `text` as an accepted item.
 fn read_publish(
     alloc: Global,
     version: Version,
@@ -61,7 +61,7 @@ fn read_publish(
     }
 }
 
-/// The item of this line that has so many bytes: zeros stand for them.
+/// Parses `line` as an item with `length` bytes, in place of which it has zeros.
 fn read_item(
     alloc: Global,
     settings: &Settings,
@@ -78,8 +78,8 @@ fn read_item(
     Ok(Recorded::Publish(item))
 }
 
-/// Returns the line of an item, and the number of its bytes. In format 2 this number stands after the line of a part and of an initialization
-/// section; format 1 knows no initialization sections, no finishes and no breaks that set a time, and tells no bytes of parts.
+/// Parses the line of an item, and the number of its bytes. In format 2 this number follows the line of a part and of an initialization
+/// section; format 1 has no initialization sections, no finishes and no breaks that set a time, and no bytes of parts.
 fn item_text(version: Version, text: &str) -> Option<(&str, u64)>
     ensures value { MatchOption result (spec.item_text version text.now ≡ None) (λ item. spec.item_text version text.now ≡ Some (item.0.now, item.1)) }
     ensures few { IfSome result (λ item. item.1 ≤ media_limit) }
@@ -113,7 +113,7 @@ fn has_more(text: &str) -> bool
     }
 }
 
-/// The line of an item, and how many bytes it has, where this number stands after the line.
+/// Parses the line of an item and the number of its bytes, if this follows the line.
 fn counted(text: &str) -> Option<(&str, u64)>
     ensures value { MatchOption result (spec.counted text.now ≡ None) (λ item. spec.counted text.now ≡ Some (item.0.now, item.1)) }
     ensures few { IfSome result (λ item. item.1 ≤ media_limit) }
@@ -122,7 +122,7 @@ fn counted(text: &str) -> Option<(&str, u64)>
     Some((text, number(length, MEDIA_LIMIT)?))
 }
 
-/// A reading, a reply that was handed out, or a request that was given up.
+/// Parses a reading, a reply that was handed out, or a request that was closed.
 fn read_short(version: Version, line: &str) -> Option<Recorded>
     ensures { result ≡ spec.short_in version line.now }
 {
@@ -136,7 +136,7 @@ fn read_short(version: Version, line: &str) -> Option<Recorded>
     Some(Recorded::Close(count(after(line, "X ")?)?))
 }
 
-/// `ASK REPLY`
+/// Parses `ASK REPLY`.
 fn collect_fields(version: Version, text: &str) -> Option<(u64, Outcome)>
     ensures { (spec.collect_fields version).read text.now ≡ option_map (λ r. ((r.0, r.1), [])) result }
 {
@@ -145,7 +145,7 @@ fn collect_fields(version: Version, text: &str) -> Option<(u64, Outcome)>
     Some((ask, outcome(version, after(rest, " ")?)?))
 }
 
-/// The request for a playlist that a text tells of, and what it got at once.
+/// Parses a request for a playlist, with its outcome at once.
 fn read_ask(
     alloc: Global,
     version: Version,
@@ -172,10 +172,10 @@ fn read_ask(
     }
 }
 
-/// What a request awaits of a rendition, which playlist it asks for, and what it got at once.
+/// What a request awaits of a rendition, which playlist it asks for, and its outcome at once.
 type Place = (Option<u64>, Option<u64>, Option<SkipKind>, Option<Outcome>);
 
-/// `ASK RENDITION MSN PART SKIP REPLY`
+/// Parses `ASK RENDITION MSN PART SKIP REPLY`.
 fn ask_fields(version: Version, text: &str) -> Option<(u64, &str, Place)>
     ensures value { (spec.ask_fields version).read text.now ≡ option_map (λ r. ((r.0, (r.1.now, (r.2.0, (r.2.1, (r.2.2, r.2.3))))), [])) result }
     ensures named { IfSome result (λ r. is_name r.1.now ≡ true) }
@@ -189,7 +189,7 @@ fn ask_fields(version: Version, text: &str) -> Option<(u64, &str, Place)>
     Some((ask, name, place_fields(version, after(rest, " ")?)?))
 }
 
-/// `MSN PART SKIP REPLY`
+/// Parses `MSN PART SKIP REPLY`.
 fn place_fields(version: Version, text: &str) -> Option<Place>
     ensures { (spec.place_fields version).read text.now ≡ option_map (λ r. ((r.0, (r.1, (r.2, r.3))), [])) result }
 {
@@ -201,7 +201,7 @@ fn place_fields(version: Version, text: &str) -> Option<Place>
     Some((msn, part, skip, outcome))
 }
 
-/// `SKIP REPLY`
+/// Parses `SKIP REPLY`.
 fn reply_fields(version: Version, text: &str) -> Option<(Option<SkipKind>, Option<Outcome>)>
     ensures { (spec.reply_fields version).read text.now ≡ option_map (λ r. ((r.0, r.1), [])) result }
 {
@@ -210,7 +210,7 @@ fn reply_fields(version: Version, text: &str) -> Option<(Option<SkipKind>, Optio
     Some((skip, or_held(version, after(rest, " ")?)?))
 }
 
-/// The request for media that a text tells of, and what it got at once: format 1 knows no such requests.
+/// Parses a request for media, with its outcome at once. Format 1 has no such requests.
 fn read_media(
     alloc: Global,
     version: Version,
@@ -236,7 +236,7 @@ fn read_media(
     }
 }
 
-/// `ASK RENDITION FILE REPLY`
+/// Parses `ASK RENDITION FILE REPLY`.
 fn media_fields(text: &str) -> Option<(u64, &str, What, Option<Outcome>)>
     ensures value { spec.media_fields.read text.now ≡ option_map (λ r. ((r.0, (r.1.now, (r.2, r.3))), [])) result }
     ensures named { IfSome result (λ r. is_name r.1.now ≡ true) }
@@ -251,7 +251,7 @@ fn media_fields(text: &str) -> Option<(u64, &str, What, Option<Outcome>)>
     Some((ask, name, what, outcome))
 }
 
-/// `FILE REPLY`
+/// Parses `FILE REPLY`.
 fn file_fields(text: &str) -> Option<(What, Option<Outcome>)>
     ensures { spec.file_fields.read text.now ≡ option_map (λ r. ((r.0, r.1), [])) result }
 {

@@ -1,4 +1,4 @@
-//! Settings, written.
+//! How settings are written.
 ghost use Rattle.std.specs.Prelude.{◌≡◌, ◌++◌, ◌∷◌, IfOk, OnOk, codes, decimal, flat_map, string_bytes};
 ghost use Rattle.ll_entry.specs.SettingsLine.{names_text, settings_line};
 
@@ -6,7 +6,7 @@ use ll_attr::Text;
 use ll_item::Settings;
 use std::alloc::{AllocError, Global};
 
-/// The line that spells settings.
+/// Returns the line that spells `settings`.
 #[tactic(auto, unfolding(crate::specs::SettingsLine::settings_line))]
 pub fn settings_text(alloc: Global, settings: &Settings) -> Result<String, AllocError>
     ensures { IfOk result (λ text. string_bytes text ≡ settings_line settings.now) }
@@ -23,7 +23,7 @@ pub fn settings_text(alloc: Global, settings: &Settings) -> Result<String, Alloc
     whole_text(alloc, settings.channel(), target, part, skip, end.as_str())
 }
 
-/// A settings line of these fields, up to the window, and of this end.
+/// Returns a settings line with these fields up to the window, and with `end` after them.
 fn whole_text(
     alloc: Global,
     channel: &str,
@@ -38,7 +38,7 @@ fn whole_text(
     format!(in alloc; "channel {channel} target={target} part={part} skip={skip}{end}")
 }
 
-/// The end of a settings line of these fields, from the window on.
+/// Returns the end of a settings line, from the window on.
 fn end_text(
     alloc: Global,
     window: u64,
@@ -52,7 +52,7 @@ fn end_text(
     format!(in alloc; " window={window} renditions={names} first={first} start={start}")
 }
 
-/// Names with a comma between two of them.
+/// Returns `names`, joined by commas.
 fn joined_names(alloc: Global, names: &[Text]) -> Result<Text, AllocError>
     ensures { IfOk result (λ text. text ≡ names_text names.now) }
 {
@@ -64,7 +64,7 @@ fn joined_names(alloc: Global, names: &[Text]) -> Result<Text, AllocError>
     Ok(Text::from_string(text))
 }
 
-/// Adds names with a comma before each of them.
+/// Appends `names` to `text`, with a comma before each.
 fn push_after_commas(text: &mut String, names: &[Text]) -> Result<(), AllocError>
     ensures { OnOk result (string_bytes text.new ≡ string_bytes text.old ++ flat_map (λ name. 44 ∷ name) names.now) }
 {

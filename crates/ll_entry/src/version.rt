@@ -9,16 +9,16 @@ use ll_verdict::Outcome;
 /// The format of a chunk, as its first line names it.
 #[derive(Clone, Copy, PartialEq, Eq)]
 pub enum Version {
-    /// `#LLHLS-CHUNK 1`: of a playlist the count of items is told and not which delta update it is, a request for `v2` was answered as
-    /// one for `YES`, nothing is told of a part's media, and there are no requests for media.
+    /// `#LLHLS-CHUNK 1`: a playlist has its count of items, and not which delta update it is; a request for `v2` was answered as one for
+    /// `YES`; a part has nothing of its media; and there are no requests for media.
     One,
-    /// `#LLHLS-CHUNK 2`: a playlist is told with the delta update that it is, a part with the length of its media, and requests for media
-    /// have lines of their own.
+    /// `#LLHLS-CHUNK 2`: a playlist has the delta update that it is, a part has the length of its media, and requests for media have lines
+    /// of their own.
     Two,
 }
 
 impl Version {
-    /// The first line of a chunk of this format.
+    /// Returns the first line of a chunk in this format.
     pub fn first_line(self) -> &'static str
         ensures { result.now ≡ spec.first_line self }
     {
@@ -28,7 +28,7 @@ impl Version {
         }
     }
 
-    /// The format of a chunk that begins with this line; none where no chunk does.
+    /// Returns the format of a chunk that begins with `line`; `None` if no chunk does.
     pub fn read(line: &str) -> Option<Version>
         ensures { result ≡ spec.version.read line.now }
     {
@@ -41,7 +41,7 @@ impl Version {
         }
     }
 
-    /// What a record of this format tells of what a reply comes to: in format 1 not which delta update a playlist is.
+    /// Returns what a record in this format keeps of `outcome`: in format 1 not which delta update a playlist is.
     pub fn told(self, outcome: Outcome) -> Outcome
         ensures { result ≡ replies.told_in self outcome }
     {
@@ -51,7 +51,7 @@ impl Version {
         }
     }
 
-    /// Which delta update a request asked for that is recorded so: in format 1 one for `v2` was answered as one for `YES`.
+    /// Returns which delta update a request asked for that is recorded with `skip`: in format 1 one for `v2` was answered as one for `YES`.
     pub(crate) fn asked_for(self, skip: Option<SkipKind>) -> Option<SkipKind>
         ensures { result ≡ replies.asked_for self skip }
     {

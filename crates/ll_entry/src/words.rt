@@ -9,14 +9,14 @@ use ll_format::{number, until};
 use ll_item::SkipKind;
 use ll_verdict::Outcome;
 
-/// A number below 2^64 without leading zeros.
+/// Parses a number below 2^64 without leading zeros.
 pub(crate) fn count(text: &str) -> Option<u64>
     ensures { result ≡ spec.count.read text.now }
 {
     number(text, u64::MAX)
 }
 
-/// A number, or `-` for none.
+/// Parses a number, or `-` for none.
 pub(crate) fn or_dash(text: &str) -> Option<Option<u64>>
     ensures { result ≡ (spec.or_dash spec.count).read text.now }
 {
@@ -26,7 +26,7 @@ pub(crate) fn or_dash(text: &str) -> Option<Option<u64>>
     Some(Some(count(text)?))
 }
 
-/// A delta update of a kind, `YES` or `v2`, or `-` for a full playlist.
+/// Parses a kind of delta update, `YES` or `v2`, or `-` for a full playlist.
 pub(crate) fn update(text: &str) -> Option<Option<SkipKind>>
     ensures { result ≡ spec.update.read text.now }
 {
@@ -41,7 +41,7 @@ pub(crate) fn update(text: &str) -> Option<Option<SkipKind>>
     }
 }
 
-/// How many items a playlist comes after, and which delta update it is, which format 1 doesn't tell.
+/// Parses how many items a playlist comes after, and which delta update it is, which format 1 doesn't say.
 fn playlist(version: Version, text: &str) -> Option<(u64, Option<SkipKind>)>
     ensures { result ≡ (spec.playlist version).read text.now }
 {
@@ -55,7 +55,7 @@ fn playlist(version: Version, text: &str) -> Option<(u64, Option<SkipKind>)>
     }
 }
 
-/// What a reply came to.
+/// Parses the outcome of a reply.
 pub(crate) fn outcome(version: Version, text: &str) -> Option<Outcome>
     ensures { result ≡ (spec.outcome version).read text.now }
 {
@@ -72,7 +72,7 @@ pub(crate) fn outcome(version: Version, text: &str) -> Option<Outcome>
     }
 }
 
-/// `text N` or `text N UPDATE`, or `media N LENGTH`
+/// Parses `text N`, `text N UPDATE`, or `media N LENGTH`.
 fn counted_reply(version: Version, text: &str) -> Option<Outcome>
     ensures { result ≡ spec.counted_reply version text.now }
 {
@@ -84,7 +84,7 @@ fn counted_reply(version: Version, text: &str) -> Option<Outcome>
     Some(Outcome::Media(count, length))
 }
 
-/// How many items media comes after, and how many bytes it has: format 1 knows no media.
+/// Parses how many items media comes after, and its length in bytes. Format 1 has no media.
 fn counts(version: Version, text: &str) -> Option<(u64, u64)>
     ensures { result ≡ (spec.counts version).read text.now }
 {
@@ -98,7 +98,7 @@ fn counts(version: Version, text: &str) -> Option<(u64, u64)>
     }
 }
 
-/// What a request got at once; none where it was held.
+/// Parses the outcome of a request at once, or `held` for none.
 pub(crate) fn or_held(version: Version, text: &str) -> Option<Option<Outcome>>
     ensures { result ≡ (spec.or_held version).read text.now }
 {
@@ -108,7 +108,7 @@ pub(crate) fn or_held(version: Version, text: &str) -> Option<Option<Outcome>>
     Some(Some(outcome(version, text)?))
 }
 
-/// What a request with these numbers awaits.
+/// Returns what a request with these numbers awaits; `None` for a part without a segment.
 pub(crate) fn awaited(msn: Option<u64>, part: Option<u64>) -> Option<Awaited>
     ensures { result ≡ spec.awaited_of msn part }
 {

@@ -1,5 +1,5 @@
-//! Entries, written as lines in format 2. No end of a line is added. The lines that read the clock, hand a reply out or give a request up
-//! take no memory.
+//! How entries are written as lines in format 2, without a line's end. The lines of a reading, of a reply that is handed out and of a
+//! request that is closed take no memory.
 ghost use Rattle.std.specs.Prelude.{◌≡◌, ◌≤◌, ◌+◌, ◌++◌, IfOk, MatchOption, OnOk, codes, false, decimal, length, string_bytes};
 ghost use Rattle.arrayvec.specs.ArrayString.{array_string_len};
 ghost use Rattle.ll_directive.specs.Files.{file_name, is_playlist};
@@ -21,10 +21,10 @@ use ll_line::Uri;
 use ll_verdict::Outcome;
 use std::alloc::{AllocError, Global};
 
-/// Memory for the line of a request: none is longer.
+/// The capacity for the line of a request, in bytes: none is longer.
 const LINE: usize = 160;
 
-/// Memory for what it tells after the rendition's name.
+/// The capacity for what follows the rendition's name in it, in bytes.
 const PLACE: usize = 96;
 
 /// Returns the line of an item that was accepted in a channel of `settings`; that of a part or of an initialization section ends with the number
@@ -39,7 +39,7 @@ pub fn publish_line(alloc: Global, settings: &Settings, item: &Item) -> Result<S
     Ok(line)
 }
 
-/// The line of a request of this number, for a playlist or for media, and of what it got at once; none where it was held.
+/// Returns the line of the request `want` with the number `ask`, for a playlist or for media, and of its outcome at once; `held` for none.
 pub fn ask_line(
     alloc: Global,
     ask: u64,
@@ -57,7 +57,7 @@ pub fn ask_line(
     media_text(alloc, ask, name, file, outcome)
 }
 
-/// How a file of media is named; none for a playlist.
+/// Returns the name of a file of media; `None` for a playlist.
 fn uri_of(what: What) -> Option<Uri<'static>>
     ensures name { MatchOption result (what ≡ Playlist) (λ file. (is_playlist what ≡ false) × (uri_text file ≡ file_name what)) }
     ensures within { spec.WhatWithin what }
@@ -70,7 +70,7 @@ fn uri_of(what: What) -> Option<Uri<'static>>
     }
 }
 
-/// `M ASK RENDITION FILE REPLY`
+/// Returns `M ASK RENDITION FILE REPLY`.
 fn media_text(
     alloc: Global,
     ask: u64,
@@ -88,7 +88,7 @@ fn media_text(
     Ok(text)
 }
 
-/// `A ASK RENDITION PLACE`
+/// Returns `A ASK RENDITION PLACE`.
 fn ask_text(alloc: Global, ask: u64, rendition: &str, place: &str) -> Result<String, AllocError>
     ensures { IfOk result (λ t. string_bytes t ≡ codes "A " ++ (decimal ask ++ (codes " " ++ (rendition.now ++ (codes " " ++ place.now))))) }
 {
@@ -97,7 +97,7 @@ fn ask_text(alloc: Global, ask: u64, rendition: &str, place: &str) -> Result<Str
     Ok(text)
 }
 
-/// `MSN PART SKIP REPLY`
+/// Returns `MSN PART SKIP REPLY`.
 fn place_text(
     alloc: Global,
     awaited: Awaited,
@@ -120,7 +120,7 @@ fn place_text(
     Ok(text)
 }
 
-/// The line of a reading of the clock.
+/// Returns the line of a reading of the clock, in milliseconds.
 pub fn clock_line(ms: u64) -> ArrayString<80>
     ensures text { (c : Configuration) → result.bytes ≡ entry_line c (recorded.Clock ms) }
     ensures spelled { (c : Configuration) → IsSpelled c (recorded.Clock ms) }
@@ -132,7 +132,7 @@ pub fn clock_line(ms: u64) -> ArrayString<80>
     line
 }
 
-/// The line of a reply that was handed out.
+/// Returns the line of the reply to the request with the number `ask`, when it is handed out.
 pub fn collect_line(ask: u64, outcome: Outcome) -> ArrayString<80>
     ensures text { (c : Configuration) → result.bytes ≡ entry_line c (recorded.Collect ask outcome) }
     ensures spelled { (c : Configuration) → IsSpelled c (recorded.Collect ask outcome) }
@@ -146,7 +146,7 @@ pub fn collect_line(ask: u64, outcome: Outcome) -> ArrayString<80>
     line
 }
 
-/// The line of a request that was given up.
+/// Returns the line of the request with the number `ask`, when it is closed.
 pub fn close_line(ask: u64) -> ArrayString<80>
     ensures text { (c : Configuration) → result.bytes ≡ entry_line c (recorded.Close ask) }
     ensures spelled { (c : Configuration) → IsSpelled c (recorded.Close ask) }
@@ -158,7 +158,7 @@ pub fn close_line(ask: u64) -> ArrayString<80>
     line
 }
 
-/// Adds a number.
+/// Appends `n` to `line`.
 fn push_number(line: &mut ArrayString<80>, n: u64)
     requires { array_string_len line.old ≤ 60 }
     ensures text { line.new.bytes ≡ line.old.bytes ++ decimal n }
@@ -168,7 +168,7 @@ fn push_number(line: &mut ArrayString<80>, n: u64)
     line.push_str(digits.format(n));
 }
 
-/// Adds what a reply comes to.
+/// Appends `outcome` to `line`.
 fn push_outcome(line: &mut ArrayString<80>, outcome: Outcome)
     requires { array_string_len line.old ≤ 33 }
     ensures text { line.new.bytes ≡ line.old.bytes ++ outcome_text Two outcome }
@@ -194,7 +194,7 @@ fn push_outcome(line: &mut ArrayString<80>, outcome: Outcome)
     }
 }
 
-/// What a request got at once; `held` for none.
+/// Returns the text of the outcome of a request at once; `held` for none.
 fn reply_text(outcome: Option<Outcome>) -> ArrayString<80>
     ensures { result.bytes ≡ or_held_text Two outcome }
 {
@@ -206,7 +206,7 @@ fn reply_text(outcome: Option<Outcome>) -> ArrayString<80>
     text
 }
 
-/// A number, or `-` for none.
+/// Returns the text of a number; `-` for none.
 fn number_text(number: Option<u64>) -> ArrayString<80>
     ensures { result.bytes ≡ or_dash_text count number }
 {
@@ -218,7 +218,7 @@ fn number_text(number: Option<u64>) -> ArrayString<80>
     text
 }
 
-/// The Media Sequence Number of what a request awaits, and the place of the part in its segment.
+/// Returns the Media Sequence Number of what a request awaits, and the part's index in its segment.
 fn numbers_of(awaited: Awaited) -> (Option<u64>, Option<u64>)
     ensures { result ≡ (spec.msn_of awaited, spec.part_of awaited) }
 {
@@ -229,7 +229,7 @@ fn numbers_of(awaited: Awaited) -> (Option<u64>, Option<u64>)
     }
 }
 
-/// A delta update of a kind, or `-` for a full playlist.
+/// Returns the name of a kind of delta update; `-` for a full playlist.
 fn update_text(update: Option<SkipKind>) -> &'static str
     ensures text { result.now ≡ or_dash_text kind update }
     ensures short { length result.now ≤ 3 }

@@ -1,4 +1,4 @@
--- The chains of a record, by what its first lines tell.
+-- The chains of a record, by what its first lines say.
 use Rattle.std.proofs.Common.{◌≡◌, ◌≤◌, ◌<◌, ◌^◌, ◌+◌, ◌-◌, ℕ, zero, suc, List, [], ◌∷◌, ◌++◌, cond, length, length-append, map, Option, Some, None, Result, Ok, refl, ap, sym, subst, ◌∙◌, append_assoc, option_map, arith}
 use Rattle.std.proofs.lemmas.List.{append-nil}
 use Rattle.ll_attr.specs.Words.{pieces_at}
@@ -10,8 +10,8 @@ use Rattle.ll_check.specs.Found.{ChainValue, IsAt, so_far}
 use Rattle.ll_check.specs.Steps.{IsOver, Moves, Tells, full_entry}
 use Rattle.ll_check.specs.declared.told.Told.{Told}
 use Rattle.ll_check.specs.declared.told.Told.TheVariants as told
-use Rattle.ll_enter.specs.Full.{without_item}
-use Rattle.ll_enter.specs.declared.full.FullEntry.{FullEntry}
+use Rattle.ll_entry_check.specs.Full.{without_item}
+use Rattle.ll_entry_check.specs.declared.full.FullEntry.{FullEntry}
 use Rattle.ll_entry.specs.Chain.{Between, Chain, Inside, Position, checked_from, entries, text_in, with_line}
 use Rattle.ll_entry.specs.declared.fault.CheckKind.{CheckKind}
 use Rattle.ll_explain.proofs.ExplainLemmas.{one_more}
@@ -38,7 +38,7 @@ joined-nothing [] = refl
 joined-nothing (es ∷ []) = ap (λ l. l ∷ []) (append-nil es)
 joined-nothing (es ∷ fs ∷ more) = ap (λ l. es ∷ l) (joined-nothing (fs ∷ more))
 
--- what the first lines tell is a part of it
+-- what the first lines say is a part of it
 tells-on : (p next : Position) (t : Told) (lines rest : List (List ℕ)) (cs : List (List FullEntry)) → Tells p t next lines rest
     → joined cs (coming p lines) ≡ joined (with_told cs t) (coming next rest)
 tells-on (Between before) (Inside ch) (told.Begun settings zero) lines rest cs h =

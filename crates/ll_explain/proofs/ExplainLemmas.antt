@@ -9,8 +9,8 @@ use Rattle.ll_check.proofs.StepLemmas.{GoesTo, moved, over-at}
 use Rattle.ll_check.specs.EntryReplies.{Brings}
 use Rattle.ll_check.specs.Found.{ChainValue, IsAt, so_far}
 use Rattle.ll_check.specs.Steps.{IsOver, Moves, Tells, full_entry, has_entry}
-use Rattle.ll_enter.specs.Full.{without_item}
-use Rattle.ll_enter.specs.declared.full.FullEntry.{FullEntry}
+use Rattle.ll_entry_check.specs.Full.{without_item}
+use Rattle.ll_entry_check.specs.declared.full.FullEntry.{FullEntry}
 use Rattle.ll_check.specs.declared.told.Told.{Told}
 use Rattle.ll_check.specs.declared.told.Told.TheVariants as told
 use Rattle.ll_entry.proofs.ToldLemmas.{told-right, whole-entry}
@@ -59,7 +59,7 @@ later-is ms (recorded.Clock reading) = refl
 later-is ms (recorded.Collect ask reply) = refl
 later-is ms (recorded.Close ask) = refl
 
--- the entry of an event tells it
+-- the entry of an event has it
 event-is : (c : Configuration) (before : List Event) (e : Event) (entry : Recorded) → entry_after c before e ≡ Some entry → event_of entry ≡ e
 event-is c before e entry h = ap event_of (sym (whole-entry entry)) ∙ (told-right Two c before e entry h).1
 
@@ -91,7 +91,7 @@ time-told (Inside ch) (Inside now) told.Ended lines rest h = absurd h
 
 -- ---- how many entries were passed
 
--- the entry of this number comes after so many, or there is none of that number
+-- the entry with this number comes after these, or there is none with that number
 abbrev IsAhead : ℕ → ℕ → Type 0
 IsAhead entry n = (entry ≡ 0) ⊎ (n < entry)
 
@@ -122,7 +122,7 @@ ahead-told entry (Inside ch) (Inside now) told.Ended lines rest h none ahead = a
 
 -- ---- one step after another
 
--- what is kept stands where the lines so far lead, and the entry of this number comes later, if at all
+-- what is kept is where the lines so far lead, and the entry with this number comes later, if at all
 pub record Seeks (kept : Option ChainValue) (entry ms : ℕ) (lines rest : List (List ℕ)) : Type 0 where
   pub now : Position
   pub at : IsAt kept now

@@ -3,8 +3,8 @@ use Rattle.std.proofs.Common.{◌≡◌, ℕ, suc, ◌+◌, ◌-◌, ◌^◌, �
 use Rattle.std.proofs.lemmas.List.{length-map, map-append}
 use Rattle.std.proofs.lemmas.List.Sums.{count_by-le-length, sum_by-cons, sum_by_push}
 use Rattle.std.specs.List.{cons_option, count_by, last_or}
-use Rattle.ll_enter.specs.declared.full.FullEntry.{FullEntry}
-use Rattle.ll_enter.specs.declared.full.FullEntry.TheVariants as full
+use Rattle.ll_entry_check.specs.declared.full.FullEntry.{FullEntry}
+use Rattle.ll_entry_check.specs.declared.full.FullEntry.TheVariants as full
 use Rattle.ll_explain.specs.Counting.{counted, first_with, last_chain, last_with, one_more, with_entry, with_kind}
 use Rattle.ll_explain.specs.Summary.{beginnings, held_now, is_answered, is_at_once, is_busy, is_ended, is_given_up, is_held, is_item, is_not_found, is_timed_out, is_too_far, largest, most_held, reading_of, readings, still_held, summary_of}
 use Rattle.ll_explain.specs.declared.summary.Summary.{Summary}
@@ -63,7 +63,7 @@ one-ended (full.Collect ask Busy) = refl
 one-ended (full.Collect ask Timeout) = refl
 one-ended (full.Close ask) = refl
 
--- who is held no longer got a reply, in time or not, or was given up
+-- who is held no longer got a reply, in time or not, or was closed
 ended-are : (es : List FullEntry) → count_by is_ended es ≡ count_by is_answered es + count_by is_timed_out es + count_by is_given_up es
 ended-are [] = refl
 ended-are (e ∷ es) =

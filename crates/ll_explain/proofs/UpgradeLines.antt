@@ -12,7 +12,7 @@ use Rattle.std.specs.Option.{option_map_or}
 use Rattle.std.specs.Str.{is_utf8}
 use Rattle.ll_attr.specs.Words.{after, words}
 use Rattle.ll_check.specs.Steps.{full_entry, in_full}
-use Rattle.ll_enter.specs.Full.{without_item}
+use Rattle.ll_entry_check.specs.Full.{without_item}
 use Rattle.ll_explain.specs.Upgrade.{media_text, upgraded_line}
 use Rattle.ll_directive.specs.Files.{is_playlist}
 use Rattle.ll_directive.specs.Targets.{IsPlain, WantValue}
@@ -211,7 +211,7 @@ collect-parts v c line text ((ask, reply), rest) entry is h =
     let t = (collect_laws v).takes text (ask, reply) rest is in
     subst (IsReadBy v c line) (some_is (recorded.Collect ask reply) entry h) (t.1.0, t.1.1)
 
--- after a key for a reading, a reply that was handed out or a request that was given up
+-- after a key for a reading, a reply that was handed out or a request that was closed
 short-read : (v : Version) (c : Configuration) (line : List ℕ) (entry : Recorded) (clock collect close : Option (List ℕ)) → after (codes "C ") line ≡ clock
     → after (codes "X ") line ≡ close
     → with_key clock (λ text. count.read text >>= λ ms. Some (recorded.Clock ms))
@@ -251,7 +251,7 @@ read-by c line entry h = line-read c line entry (after (codes "P ") line) (after
 
 -- ---- items
 
--- what stands after the words of an item, where they are those of a part and where they aren't
+-- what follows the words of an item, if they are those of a part and if they aren't
 abbrev media_if : Bool → List ℕ
 media_if part = cond part (codes " 0") []
 
@@ -264,12 +264,12 @@ part_by text None e h = cc
 part_by text (Some rest) e h =
     ap (λ t. is_part_line (t ++ codes " 0")) (key_takes (codes "part ") text rest e) ∙ ap is_some (key_again (codes "part ") (rest ++ codes " 0"))
 
--- no bytes are told by ` 0`
+-- ` 0` stands for no bytes
 no_bytes : (text : List ℕ) → counted_line text 0 ≡ text ++ codes " 0"
 unfolding digits
 no_bytes text = refl
 
--- how the line of an item is read in format 2, where it is a part's or an initialization section's and where it isn't
+-- how the line of an item is read in format 2, if it is a part's or an initialization section's and if it isn't
 abbrev read_if : Bool → Bool → List ℕ → Option (List ℕ × ℕ)
 read_if part init text = if part || init then counted text else Some (text, 0)
 
@@ -308,7 +308,7 @@ publish-again c line text item is h =
 
 -- ---- the line of each entry in format 2
 
--- what is told of a reply in format 1 is spelled in format 2 with the delta update that it is
+-- what format 1 keeps of a reply is spelled in format 2 with the delta update that it is
 told_within : (o : Outcome) → OutcomeWithin One (told_in One o) → OutcomeWithin Two o
 told_within (Text n u) h = (h.0, update-within u)
 told_within (Media n size) h = absurd h
@@ -350,7 +350,7 @@ one-new c line (recorded.Collect ask reply) limits l r =
     record { read = (read_again c (recorded.Collect ask reply) limits spelled).0; text = collect-line c ask reply spelled }
 one-new c line (recorded.Close ask) limits l r = same-new c line (recorded.Close ask) limits l refl r.1 r.0
 
--- the line that an entry has in format 2, where its line in a format is given
+-- the line of an entry in format 2, given its line in a format
 pub new-line : (v : Version) (c : Configuration) (line : List ℕ) (entry : Recorded) → limit_broken c ≡ None → IsLine line
     → entry_in v c line ≡ Ok (as_told v entry) → IsNew c entry (upgraded_line v c line (without_item entry))
 new-line One c line entry limits l h = one-new c line entry limits l (read-by c line (as_told One entry) h)

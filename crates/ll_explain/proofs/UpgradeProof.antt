@@ -1,4 +1,4 @@
--- What a record is in format 2 is a record of the same: run by run, in each run chunk by chunk, and in each chunk line by line.
+-- A record, written in format 2, is a record of the same: run by run, in each run chunk by chunk, and in each chunk line by line.
 use Rattle.std.proofs.Common.{◌≡◌, ℕ, ◌+◌, ◌≤◌, ◌^◌, ◌==◌, List, [], ◌∷◌, ◌++◌, Bool, true, false, not, cond, Option, Some, None, Ok, refl, ap, ◌∙◌, sym, subst, append_assoc, length, length-append, arith}
 use Rattle.std.proofs.lemmas.Bool.{and_from, and_parts, not-true, not_from_false}
 use Rattle.std.proofs.lemmas.List.Elements.{All-from_recursion, length_all_zip, recursion_from_All}
@@ -11,7 +11,7 @@ use Rattle.ll_check.proofs.Few.{few}
 use Rattle.ll_explain.proofs.UpgradeLines.{IsLine, full-is, new-line, not-last, within-limits}
 use Rattle.ll_check.proofs.Walk.{IsOfChannel, IsText, Names, marked}
 use Rattle.ll_check.specs.Records.{AreToldBy, Chunk, IsRun, IsToldBy, Run, are_in_order, chunk_lines, chunks, entries_in, events_in, lines_of}
-use Rattle.ll_enter.specs.Full.{without_item}
+use Rattle.ll_entry_check.specs.Full.{without_item}
 use Rattle.ll_explain.specs.Upgrade.{IsSameChunk, IsSameRun, UpgradeLaw, upgraded_entry, upgraded_from, upgraded_line, where_right}
 use Rattle.ll_entry.proofs.ChainLemmas.{three}
 use Rattle.ll_entry.proofs.ChunkProof.{another_is, at_line, begun_is, continued_is, first_utf8, plain}
@@ -42,7 +42,7 @@ pieces_by b bs true e all = subst (AllByRecursion HasNoEnd) (sym (slice_split-co
 pieces_by b bs false e all =
     subst (AllByRecursion HasNoEnd) (sym (slice_split-cons_no (λ x. x == 10) b bs e)) (onto_lacks b (pieces_at 10 bs) (not_from_false (b == 10) e) all)
 
--- no end of a line stands in a piece
+-- no end of a line is in a piece
 pieces_lack : (text : List ℕ) → AllByRecursion HasNoEnd (pieces_at 10 text)
 pieces_lack [] = (refl, tt)
 pieces_lack (b ∷ bs) = pieces_by b bs (b == 10) refl (pieces_lack bs)
@@ -76,7 +76,7 @@ header-cut settings n rest s a =
     ∙ three (first_line Two ++ 10 ∷ second) second third (first_line Two) settings (at_line n) rest
     (cut (first_line Two) second refl) (cut settings third s) (cut (at_line n) rest a)
 
--- ---- what stands in a chunk after its first three lines, and after it
+-- ---- what is in a chunk after its first three lines, and after it
 
 abbrev rest_of : List (List ℕ) → List (List ℕ) → List (List ℕ)
 rest_of own tail = own ++ last_line ∷ tail
@@ -120,7 +120,7 @@ line-on v c earlier before e line more limits l t =
     ∙ ap (pieces_at 10) (append_assoc new (10 ∷ []) rest)
     ∙ cut new rest (new-line v c line t.entry limits l t.read).text.1
 
--- what the entries of a chunk are in format 2, of which others are told after them, and which events are left for those
+-- what the entries of a chunk are in format 2, after which other entries come, and which events are left for those
 record Entries (v : Version) (c : Configuration) (earlier : ℕ) (before events : List Event) (own tail : List (List ℕ))
     (others : List (Version × List ℕ)) : Type 0 where
   lines : List (List ℕ)
@@ -189,7 +189,7 @@ chunk-on before k c earlier es more new names s a small joined is =
     ∙ header-cut k.settings (length es) (upgraded_from (Inside (chain_in c k.version earlier es)) more) s.1 a.1
     ∙ ap (λ ls. first_line Two ∷ k.settings ∷ at_line (length es) ∷ ls) is
 
--- A chunk and those after it, which are told by how many entries stand before them. There are as many of these in format 2.
+-- A chunk and those after it, which are given by how many entries come before them. There are as many of these in format 2.
 chunk-and-more : (all : List (List ℕ) → List (List ℕ)) (old new : ℕ → List (List ℕ)) (text : List (List ℕ)) (own now same : ℕ) → text ≡ all (old own)
     → now ≡ own → old now ≡ new now → now ≡ same → text ≡ all (new same)
 chunk-and-more all old new text own now same first place more many =
@@ -206,7 +206,7 @@ chunk_texts : (n : ℕ) (k : Chunk) (lines tail : List (List ℕ)) → IsLine k.
     → AllByRecursion IsText tail → AllByRecursion IsText (first_line Two ∷ k.settings ∷ at_line n ∷ rest_of lines tail)
 chunk_texts n k lines tail s a texts more = (first_utf8 Two, (s.0, (a.0, rest_texts lines tail texts more)))
 
--- what the chunks of a run are in format 2, with the chain that they come to
+-- what the chunks of a run are in format 2, with the chain after them
 record Chunks (before : Option Chain) (c : Configuration) (es events : List Event) (k : Chunk) (others : List Chunk) (tail : List (List ℕ)) : Type 0 where
   lines : List (List ℕ)
   more : List Chunk

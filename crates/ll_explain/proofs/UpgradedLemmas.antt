@@ -1,4 +1,4 @@
--- What lines are in format 2, by what the first of them tell.
+-- What lines are in format 2, by what the first of them say.
 use Rattle.std.proofs.Common.{◌≡◌, ℕ, List, [], ◌++◌, cond, length, Option, Some, None, Result, Ok, Err, OnOk, false, is_err, is_ok, true≢false, refl, ap, sym, ◌∙◌, append_assoc, option_map}
 use Rattle.std.specs.Option.{option_map_or}
 use Rattle.ll_attr.specs.Words.{pieces_at}
@@ -6,9 +6,9 @@ use Rattle.ll_check.proofs.Places.{first-at}
 use Rattle.ll_check.proofs.StepLemmas.{GoesTo, moved}
 use Rattle.ll_check.specs.Found.{ChainValue, IsAt}
 use Rattle.ll_check.specs.Steps.{Moves, Tells, full_entry}
-use Rattle.ll_enter.specs.Full.{without_item}
+use Rattle.ll_entry_check.specs.Full.{without_item}
 use Rattle.ll_explain.specs.Upgrade.{told_text, upgraded_entry, upgraded_from, upgraded_line, where_right}
-use Rattle.ll_enter.specs.declared.full.FullEntry.{FullEntry}
+use Rattle.ll_entry_check.specs.declared.full.FullEntry.{FullEntry}
 use Rattle.ll_check.specs.declared.told.Told.{Told}
 use Rattle.ll_check.specs.declared.told.Told.TheVariants as told
 use Rattle.ll_entry.specs.Chain.{Between, Chain, Inside, Position, checked_from, with_line}

@@ -2,13 +2,13 @@
 use Rattle.std.specs.Prelude.{ℕ, zero, suc, List, [], ◌∷◌, Option, Some, None, Result, Ok, Err, bytes_eq, if◌then◌else◌, length, option_map}
 use Rattle.ll_attr.specs.Words.{pieces_at}
 use Rattle.ll_check.specs.Steps.{full_entry}
-use Rattle.ll_enter.specs.Full.{without_item}
-use Rattle.ll_enter.specs.declared.full.FullEntry.{FullEntry}
+use Rattle.ll_entry_check.specs.Full.{without_item}
+use Rattle.ll_entry_check.specs.declared.full.FullEntry.{FullEntry}
 use Rattle.ll_entry.specs.Chain.{Between, Chain, Inside, Position, begun, text_in, with_line}
 use Rattle.ll_entry.specs.Frame.{last_line}
 use Rattle.ll_entry.specs.declared.fault.CheckKind.{CheckKind}
 
--- what lines tell from a position on
+-- what lines say from a position on
 pub record Coming : Type 0 where
   -- the further entries of the chain so far
   pub entries : List FullEntry
@@ -22,17 +22,17 @@ abbrev pub coming_by : Result Chain CheckKind → (Chain → Coming) → Coming
 coming_by (Ok ch) from = from ch
 coming_by (Err kind) from = nothing
 
--- A chunk stands before this. A chain begins with one that has none of its entries before it.
+-- A chunk comes before this. A chain begins with one that has none of its entries before it.
 abbrev pub after_chunk : ℕ → Coming → Coming
 after_chunk zero later = record { entries = []; chains = later.entries ∷ later.chains }
 after_chunk (suc at) later = later
 
--- an entry stands before this
+-- an entry comes before this
 abbrev pub after_entry : Option FullEntry → Coming → Coming
 after_entry None later = later
 after_entry (Some entry) later = record later { entries = entry ∷ later.entries }
 
--- what these lines tell, as far as they are right
+-- what these lines say, as far as they are right
 abbrev pub coming : Position → List (List ℕ) → Coming
 coming (Between before) [] = nothing
 coming (Between before) (rest ∷ []) = nothing
@@ -44,6 +44,6 @@ coming (Inside ch) (line ∷ more) =
     if bytes_eq line last_line then coming (Between (Some ch)) more
     else after_entry (option_map without_item (full_entry ch line)) (coming_by (with_line ch line) (λ now. coming (Inside now) more))
 
--- the entries of each chain of a record, told in full
+-- the entries of each chain of a record, in full
 abbrev pub chains_in : List ℕ → List (List FullEntry)
 chains_in bytes = (coming (Between None) (pieces_at 10 bytes)).chains

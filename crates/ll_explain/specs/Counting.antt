@@ -3,7 +3,7 @@ use Rattle.std.specs.Prelude.{ℕ, zero, suc, ◌+◌, ◌-◌, ◌^◌, List, [
 use Rattle.std.specs.Option.{option_or}
 use Rattle.ll_check.specs.declared.told.Told.{Told}
 use Rattle.ll_check.specs.declared.told.Told.TheVariants as told
-use Rattle.ll_enter.specs.declared.full.FullEntry.{FullEntry}
+use Rattle.ll_entry_check.specs.declared.full.FullEntry.{FullEntry}
 use Rattle.ll_explain.specs.Chains.{Coming}
 use Rattle.ll_explain.specs.Summary.{is_answered, is_at_once, is_busy, is_given_up, is_held, is_item, is_not_found, is_timed_out, is_too_far, reading_of}
 use Rattle.ll_explain.specs.declared.summary.Summary.{Summary}
@@ -12,7 +12,7 @@ use Rattle.ll_explain.specs.declared.summary.Summary.{Summary}
 abbrev pub one_more : ℕ → ℕ
 one_more n = min (n + 1) (2 ^ 64 - 1)
 
--- one more of a kind, where an entry is of it
+-- one more of a kind, if an entry is of it
 abbrev pub counted : Bool → ℕ → ℕ
 counted is n = if is then one_more n else n
 
@@ -51,7 +51,7 @@ with_entry [] entry = []
 with_entry (es ∷ []) entry = (es ++ entry ∷ []) ∷ []
 with_entry (es ∷ fs ∷ more) entry = es ∷ with_entry (fs ∷ more) entry
 
--- lines told this
+-- the chains after lines that say this
 abbrev pub with_told : List (List FullEntry) → Told → List (List FullEntry)
 with_told chains (told.Begun settings zero) = chains ++ [] ∷ []
 with_told chains (told.Begun settings (suc at)) = chains
@@ -64,7 +64,7 @@ last_chain [] = []
 last_chain (es ∷ []) = es
 last_chain (es ∷ fs ∷ more) = last_chain (fs ∷ more)
 
--- the entries of each chain, with what is told after those so far
+-- the entries of each chain, with what comes after those so far
 abbrev pub joined : List (List FullEntry) → Coming → List (List FullEntry)
 joined [] later = later.chains
 joined (es ∷ []) later = (es ++ later.entries) ∷ later.chains

@@ -1,8 +1,8 @@
--- How much of what there is in a chain, over the list of all its entries.
+-- The summary of a chain, over the list of all its entries.
 use Rattle.std.specs.Prelude.{ℕ, ◌+◌, ◌-◌, List, [], ◌∷◌, Bool, true, false, Option, Some, None, count_by, length, map, max}
 use Rattle.std.specs.List.{filter_map, last_or, slice_get}
-use Rattle.ll_enter.specs.declared.full.FullEntry.{FullEntry}
-use Rattle.ll_enter.specs.declared.full.FullEntry.TheVariants as full
+use Rattle.ll_entry_check.specs.declared.full.FullEntry.{FullEntry}
+use Rattle.ll_entry_check.specs.declared.full.FullEntry.TheVariants as full
 use Rattle.ll_explain.specs.declared.summary.Summary.{Summary}
 use Rattle.ll_verdict.specs.declared.reply.Outcome.TheVariants.{NotFound, TooFar, Busy, Timeout}
 
@@ -13,7 +13,7 @@ abbrev pub is_item : FullEntry → Bool
 is_item full.Publish = true
 is_item other = false
 
--- a request was refused at once, so
+-- a request was refused at once, for this
 abbrev pub is_not_found : FullEntry → Bool
 is_not_found (full.Ask ask want (Some NotFound)) = true
 is_not_found other = false
@@ -50,7 +50,7 @@ is_answered (full.Collect ask Timeout) = false
 is_answered (full.Collect ask other) = true
 is_answered other = false
 
--- or was given up
+-- or was closed
 abbrev pub is_given_up : FullEntry → Bool
 is_given_up (full.Close ask) = true
 is_given_up other = false
@@ -72,11 +72,11 @@ reading_of other = None
 abbrev pub readings : List FullEntry → List ℕ
 readings entries = filter_map reading_of entries
 
--- how many requests are held after these entries: those that were held, without those that are held no longer
+-- the number of requests that are held after these entries: those that were held, without those that are held no longer
 abbrev pub still_held : List FullEntry → ℕ
 still_held entries = count_by is_held entries - count_by is_ended entries
 
--- the lists that a list begins with, from the empty one to itself
+-- the prefixes of a list, from the empty one to itself
 abbrev pub beginnings : {A : Type 0} → List A → List (List A)
 beginnings [] = [] ∷ []
 beginnings (x ∷ xs) = [] ∷ map (λ ys. x ∷ ys) (beginnings xs)
@@ -90,7 +90,7 @@ largest (n ∷ more) = max n (largest more)
 abbrev pub most_held : List FullEntry → ℕ
 most_held entries = largest (map still_held (beginnings entries))
 
--- how much of what there is in a chain of these entries
+-- the summary of a chain of these entries
 abbrev pub summary_of : List FullEntry → Summary
 summary_of entries = record {
   entries = length entries;
@@ -108,6 +108,6 @@ summary_of entries = record {
   last = last_or None (readings entries);
 }
 
--- the same of a summary: how many requests are held at its end
+-- the number of requests that are held at the end of a summary's chain
 abbrev pub held_now : Summary → ℕ
 held_now s = s.held - (s.answered + s.timed_out + s.given_up)

@@ -1,4 +1,4 @@
--- The lines that tell how much of what there is in each chain.
+-- The lines of the summary of each chain.
 use Rattle.std.specs.Prelude.{ℕ, ◌+◌, List, [], ◌∷◌, ◌++◌, codes, decimal, unwrap_or}
 use Rattle.ll_explain.specs.declared.summary.Summary.{Summary}
 use Rattle.ll_explain.specs.Summary.{held_now}
@@ -9,7 +9,7 @@ events_text number s =
     codes "chain " ++ (decimal number ++ (codes "\nentries " ++ (decimal s.entries ++ (codes "\nitems " ++ (decimal s.items
     ++ (codes "\nfirst reading " ++ (decimal (unwrap_or s.first 0) ++ (codes "\nlast reading " ++ (decimal (unwrap_or s.last 0) ++ codes "\n")))))))))
 
--- the requests that got what they asked for, or were held in vain
+-- the requests that were answered, timed out or closed
 unfoldable pub answered_text : Summary → List ℕ
 answered_text s =
     codes "answered at once " ++ (decimal s.at_once ++ (codes "\nheld and answered " ++ (decimal s.answered ++ (codes "\ntimed out " ++ (decimal s.timed_out
@@ -24,7 +24,7 @@ unfoldable pub refused_text : Summary → List ℕ
 refused_text s =
     codes "too far " ++ (decimal s.too_far ++ (codes "\nnot found " ++ (decimal s.not_found ++ (codes "\nbusy " ++ (decimal s.busy ++ codes "\n")))))
 
--- the chain of this number
+-- the chain with this number
 abbrev pub chain_text : ℕ → Summary → List ℕ
 chain_text number s = events_text number s ++ (answered_text s ++ (held_text s ++ refused_text s))
 

@@ -5,9 +5,9 @@ use Rattle.std.specs.Option.{option_map_or}
 use Rattle.ll_attr.specs.Words.{after, pieces_at}
 use Rattle.ll_check.specs.Records.{Chunk, IsRecord, Run, chunks}
 use Rattle.ll_check.specs.Steps.{full_entry}
-use Rattle.ll_enter.specs.Full.{without_item}
-use Rattle.ll_enter.specs.declared.full.FullEntry.{FullEntry}
-use Rattle.ll_enter.specs.declared.full.FullEntry.TheVariants as full
+use Rattle.ll_entry_check.specs.Full.{without_item}
+use Rattle.ll_entry_check.specs.declared.full.FullEntry.{FullEntry}
+use Rattle.ll_entry_check.specs.declared.full.FullEntry.TheVariants as full
 use Rattle.ll_check.specs.declared.told.Told.{Told}
 use Rattle.ll_check.specs.declared.told.Told.TheVariants as told
 use Rattle.ll_entry.specs.Chain.{Between, Chain, Inside, Position, begun, text_in, with_line}
@@ -21,12 +21,12 @@ use Rattle.ll_entry.specs.declared.version.Version.{Version}
 use Rattle.ll_entry.specs.declared.version.Version.TheVariants.{One, Two}
 use Rattle.ll_item.specs.Settings.{Configuration}
 
--- what stands after the words of an item in format 2: the length of its media after a part, and there is none
+-- what follows the words of an item in format 2: after a part the length of its media, which is 0
 abbrev pub media_text : List ℕ → List ℕ
 media_text line = if option_map_or is_part_line (after (codes "P ") line) false then codes " 0" else []
 
--- The line of an entry in format 2, where its line in a format is given. An item's words stay as they are given. A request asks for the delta
--- update that it was answered with in format 1, and a playlist is told with the delta update that it is.
+-- The line of an entry in format 2, given its line in a format. An item's words stay as they are. A request asks for the delta update that
+-- it was answered with in format 1, and a playlist has the delta update that it is.
 abbrev pub upgraded_line : Version → Configuration → List ℕ → FullEntry → List ℕ
 upgraded_line Two c line entry = line
 upgraded_line One c line full.Publish = line ++ media_text line
@@ -35,13 +35,13 @@ upgraded_line One c line (full.Clock ms) = line
 upgraded_line One c line (full.Collect ask reply) = entry_line c (Collect ask reply)
 upgraded_line One c line (full.Close ask) = line
 
--- what lines that tell this are in format 2, each with its end
+-- the lines that say this, in format 2, each with its end
 abbrev pub told_text : Configuration → Told → List ℕ
 told_text c (told.Begun settings at) = header_text Two settings.now at
 told_text c (told.Entry version line entry) = with_end (upgraded_line version c line.now entry)
 told_text c told.Ended = with_end last_line
 
--- the same of a line that tells an entry after a chain, with its end
+-- the same of an entry's line after a chain, with its end
 abbrev pub upgraded_entry : Chain → List ℕ → List ℕ
 upgraded_entry ch line = option_map_or (λ entry. with_end (upgraded_line ch.version ch.settings line (without_item entry))) (full_entry ch line) []
 
@@ -65,7 +65,7 @@ upgraded_from (Inside ch) (line ∷ more) =
 abbrev pub upgraded : List ℕ → List ℕ
 upgraded bytes = upgraded_from (Between None) (pieces_at 10 bytes)
 
--- ---- that it tells the same
+-- ---- that it says the same
 
 -- the same chunk of a run, in format 2: with the same settings line, and as many entries
 pub record IsSameChunk (k new : Chunk) : Type 0 where
@@ -79,6 +79,6 @@ pub record IsSameRun (r new : Run) : Type 0 where
   pub events : new.events ≡ r.events
   pub chunks : AllZip IsSameChunk (chunks r) (chunks new)
 
--- A record of so many events is one of these events in format 2, too.
+-- A record of some events is one of these events in format 2, too.
 abbrev pub UpgradeLaw : Type 0
 UpgradeLaw = (text : List ℕ) (n : ℕ) (r : IsRecord text n) → (new : IsRecord (upgraded text) n) × (new.channel ≡ r.channel) × AllZip IsSameRun r.runs new.runs

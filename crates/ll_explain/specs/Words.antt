@@ -1,4 +1,4 @@
--- How an entry is told in words.
+-- An entry in words.
 use Rattle.std.specs.Prelude.{◌≡◌, ◌≤◌, ◌⊎◌, ◌||◌, ℕ, List, [], ◌++◌, Bool, true, false, Option, Some, None, Err, codes, decimal, if◌then◌else◌, is_some}
 use Rattle.ll_attr.specs.Words.{after}
 use Rattle.ll_check.specs.Answer.{answer_line}
@@ -19,7 +19,7 @@ playlist_words None = codes "the full playlist"
 playlist_words (Some Yes) = codes "a delta update (YES)"
 playlist_words (Some V2) = codes "a delta update (v2)"
 
--- what a reply comes to
+-- an outcome in words
 unfoldable pub text_words : ℕ → List ℕ → List ℕ
 text_words n playlist = playlist ++ (codes " after " ++ (decimal n ++ codes " items"))
 
@@ -56,13 +56,14 @@ abbrev pub playlist_text : Option Reply → List ℕ
 playlist_text (Some (reply.Text page)) = codes "\n" ++ page_text page
 playlist_text other = []
 
--- the entry of this number and line, at this time in milliseconds, with its reply
+-- the entry with this number and line, at this time in milliseconds, with its reply
 unfoldable pub explained_text : ℕ → ℕ → List ℕ → Option Reply → List ℕ
 explained_text entry time line reply =
     codes "entry " ++ (decimal entry ++ (codes ", at " ++ (decimal time ++ (codes " ms: " ++ (line ++ (codes "\n" ++
     (event_words line reply ++ (reply_words reply ++ (codes "\n" ++ playlist_text reply)))))))))
 
--- what is written of the entry of this number: what the record tells of it; or, where the record isn't right up to it, the line that tells how
+-- what is written of the entry with this number: what the record says of it; or, if the record is wrong before it or at it, the line that
+-- says how
 abbrev pub IsExplanation : List ℕ → ℕ → Bool → List ℕ → Type 0
 IsExplanation bytes entry true text =
     (ms : ℕ) × (line : List ℕ) × (reply : Option Reply) × IsExplained bytes entry ms line reply × (text ≡ explained_text entry ms line reply)

@@ -1,4 +1,4 @@
-//! One entry of a record.
+//! What one entry of a record says.
 ghost use Rattle.std.specs.Prelude.{◌≡◌, ◌≢◌, ◌≤◌, ◌⊎◌, IfErr, IfOk, IsErrOf, MatchOption, None, Err, true};
 ghost use Rattle.ll_attr.specs.Words.{pieces_at};
 ghost use Rattle.ll_check.specs.Found.{IsAt};
@@ -8,32 +8,32 @@ ghost use Rattle.ll_explain.specs.Explained.{HasNoEntry, IsExplained};
 ghost use Rattle.ll_explain.specs.Seeking.{IsElsewhere, IsHere, time_told};
 
 use ll_check::{Checker, EntryReply, Told};
-use ll_enter::FullEntry;
 use ll_entry::{CheckFault, CheckKind};
+use ll_entry_check::FullEntry;
 use ll_verdict::Reply;
 use std::alloc::Global;
 
-/// What a record tells of one of its entries.
+/// What a record says of one of its entries.
 #[derive(Drop)]
 pub struct Explained<'a> {
     /// The channel's time before it, in milliseconds.
     pub time: u64,
     /// Its line.
     pub line: &'a str,
-    /// The reply that it brings: what a request gets at once, or what is handed out to it; none where it brings none.
+    /// Its reply: what a request gets at once, or what is handed out to it; `None` if it has none.
     pub reply: Option<Reply>,
 }
 
 /// Why an entry isn't explained.
 #[derive(Clone, Copy)]
 pub enum ExplainFault {
-    /// The record isn't right up to it, or no memory was found.
+    /// The record is wrong before it or at it, or out of memory.
     Wrong(CheckFault),
-    /// The record has no entry of this number.
+    /// The record has no entry with this number.
     NoEntry,
 }
 
-/// What a record tells of the entry of this number, from 1. What comes after the entry isn't looked at.
+/// Returns what a record says of the entry with the number `entry`, from 1. What comes after the entry isn't checked.
 pub fn explain(alloc: Global, chunks: &[u8], entry: u64) -> Result<Explained<'_>, ExplainFault>
     ensures right { IfOk result (λ e. IsExplained chunks.now entry e.time e.line.now e.reply) }
     ensures wrong { (f : CheckFault) → IsErrOf result (ExplainFault.Wrong f) → f.kind ≢ CheckKind.Memory → checked chunks.now ≡ Err f }
@@ -49,7 +49,7 @@ pub fn explain(alloc: Global, chunks: &[u8], entry: u64) -> Result<Explained<'_>
     }
 }
 
-/// What a record tells of the entry of this number; none where it has no such entry.
+/// Returns what a record says of the entry with the number `entry`; `None` if it has no such entry.
 fn find(alloc: Global, chunks: &[u8], entry: u64) -> Result<Option<Explained<'_>>, CheckFault>
     ensures right { IfOk result (λ r. MatchOption r (HasNoEntry chunks.now entry) (λ e. IsExplained chunks.now entry e.time e.line.now e.reply)) }
     ensures wrong { IfErr result (λ f. f.kind ≢ CheckKind.Memory → checked chunks.now ≡ Err f) }
@@ -60,7 +60,7 @@ fn find(alloc: Global, chunks: &[u8], entry: u64) -> Result<Option<Explained<'_>
     find_by(&mut checker, chunks, entry)
 }
 
-/// The same, by a checker to which nothing has come.
+/// Does the same with `checker`, to which no chunk has come.
 fn find_by<'a>(
     checker: &mut Checker,
     chunks: &'a [u8],
@@ -91,7 +91,7 @@ fn find_by<'a>(
     Ok(None)
 }
 
-/// What the next entry brings, where it is the one of this number; else none, and nothing changes.
+/// Returns the line and the reply of the next entry, if its number is `entry`; else `None`, and nothing changes.
 fn reply_at<'a>(
     checker: &mut Checker,
     entry: u64,
@@ -110,7 +110,7 @@ fn reply_at<'a>(
     checker.reply(text)
 }
 
-/// The time of a chain's channel after lines that tell this, from that before them: the largest reading of the chain.
+/// Returns the time of a chain's channel after the lines that say `told`, from `time` before them: the largest reading of the chain.
 fn time_after(time: u64, told: &Told<'_>) -> u64
     ensures { result ≡ time_told time told.now }
 {

@@ -1,4 +1,5 @@
-//! What a record tells: in format 2; of one entry, what happened and what was answered, with the playlist; of each chain, how much of what there was.
+//! What a record says: all of it in format 2; of one entry, what happened and what was answered, with the playlist; of each chain, its
+//! counts.
 #![tactic(auto)]
 
 mod explained;

@@ -1,47 +1,47 @@
-//! How much of what there is in each chain of a record.
+//! The summary of each chain of a record: how many entries of each kind it has.
 ghost use Rattle.std.specs.Prelude.{◌≡◌, ◌≢◌, ◌++◌, ◌∷◌, ◌-◌, ◌^◌, ◌<◌, [], IfErr, IfOk, None, OnOk, Ok, Err, List, length, map, true, ℕ};
 ghost use Rattle.ll_attr.specs.Words.{pieces_at};
 ghost use Rattle.ll_directive.specs.Targets.{WantValue};
-ghost use Rattle.ll_enter.specs.declared.full.FullEntry.{FullEntry};
+ghost use Rattle.ll_entry_check.specs.declared.full.FullEntry.{FullEntry};
 ghost use Rattle.ll_entry.specs.Chain.{Between, checked, checked_from, not_before};
 ghost use Rattle.ll_explain.specs.Chains.{chains_in};
 ghost use Rattle.ll_explain.specs.Counting.{last_chain, one_more, with_kind, with_told};
 ghost use Rattle.ll_explain.specs.Summary.{held_now, summary_of};
 
 use ll_check::{Checker, Told};
-use ll_enter::FullEntry;
 use ll_entry::{CheckFault, CheckKind};
+use ll_entry_check::FullEntry;
 use ll_verdict::Outcome;
 use std::alloc::{AllocError, Global};
 
-/// How much of what there is in a chain.
+/// The counts of a chain.
 #[derive(Clone, Copy)]
 pub struct Summary {
-    /// Its entries.
+    /// The number of its entries.
     pub entries: u64,
-    /// The items that were accepted.
+    /// The number of accepted items.
     pub items: u64,
-    /// The requests that got a playlist or media at once.
+    /// The number of requests that got a playlist or media at once.
     pub at_once: u64,
-    /// The requests that were held.
+    /// The number of requests that were held.
     pub held: u64,
-    /// Those of them that got a reply before their time was over.
+    /// The number of held requests that got a reply before their timeout.
     pub answered: u64,
-    /// Those that were held until their time was over.
+    /// The number of held requests that timed out.
     pub timed_out: u64,
-    /// Those that were given up.
+    /// The number of held requests that were closed.
     pub given_up: u64,
-    /// The requests for what was too far ahead.
+    /// The number of requests for what was too far ahead.
     pub too_far: u64,
-    /// The requests for a rendition or media that there isn't, as was told at once.
+    /// The number of requests for a rendition or media that there isn't, answered at once.
     pub not_found: u64,
-    /// The requests that came when as many waited as may wait.
+    /// The number of requests that came when the limit of waiting requests was reached.
     pub busy: u64,
     /// The most requests that were held at one time.
     pub most_held: u64,
-    /// The first reading of the clock, in milliseconds; none if there is none.
+    /// The first reading of the clock, in milliseconds, if there is one.
     pub first: Option<u64>,
-    /// The last one.
+    /// The last reading of the clock, in milliseconds, if there is one.
     pub last: Option<u64>,
 }
 
@@ -76,7 +76,7 @@ impl Summary {
         self.most_held = self.most_held.max(self.still_held());
     }
 
-    /// Returns how many requests are held at the chain's end: they neither got their reply nor were given up.
+    /// Returns how many requests are held at the chain's end: they neither got their reply nor were closed.
     pub fn still_held(&self) -> u64
         ensures { result ≡ held_now self.now }
     {
@@ -85,7 +85,7 @@ impl Summary {
             .saturating_sub(handed_out.saturating_add(self.given_up))
     }
 
-    /// Counts `entry` for what it tells.
+    /// Counts `entry` by its kind.
     fn add_kind(&mut self, entry: &FullEntry)
         ensures { self.new ≡ with_kind self.old entry.now }
     {
@@ -125,18 +125,18 @@ impl Summary {
     }
 }
 
-/// Counts one more.
+/// Adds 1 to `many`, as far as 64 bits go.
 fn count(many: &mut u64)
     ensures { many.new ≡ one_more many.old }
 {
     *many = many.saturating_add(1);
 }
 
-/// Returns how much of what there is in each chain of the record `chunks`.
+/// Returns the summary of each chain of the record `chunks`.
 ///
 /// # Errors
 ///
-/// The fault of the record, as [`check`](ll_check::check) has it; Memory if memory runs out.
+/// The fault of the record, as [`check`](ll_check::check) has it; Memory if out of memory.
 pub fn summarize(alloc: Global, chunks: &[u8]) -> Result<Vec<Summary>, CheckFault>
     ensures right { OnOk result ((n : ℕ) × (checked chunks.now ≡ Ok n)) }
     ensures counts { IfOk result (λ all. all.items ≡ map summary_of (chains_in chunks.now)) }
@@ -147,7 +147,7 @@ pub fn summarize(alloc: Global, chunks: &[u8]) -> Result<Vec<Summary>, CheckFaul
     summarize_by(alloc, &mut checker, chunks)
 }
 
-/// Does the same by `checker`, to which nothing has come.
+/// Does the same with `checker`, to which no chunk has come.
 fn summarize_by(
     alloc: Global,
     checker: &mut Checker,
@@ -175,7 +175,7 @@ fn summarize_by(
     Ok(chains)
 }
 
-/// Counts what lines tell, `told`: a chain begins with a chunk that has no entries before it.
+/// Counts `told`, what the next lines say: a chain begins with a chunk that has no entries before it.
 fn add(chains: &mut Vec<Summary>, told: &Told<'_>) -> Result<(), AllocError>
     ensures { (before : List (List FullEntry)) → length (last_chain before) < 2 ^ 64 - 1 → chains.old.items ≡ map summary_of before
         → OnOk result (chains.new.items ≡ map summary_of (with_told before told.now)) }

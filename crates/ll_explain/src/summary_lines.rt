@@ -1,11 +1,11 @@
-//! Summaries of chains in lines.
+//! The lines of the summaries of chains.
 ghost use Rattle.std.specs.Prelude.{◌≡◌, ◌++◌, IfOk, OnOk, string_bytes};
 ghost use Rattle.ll_explain.specs.SummaryLines as spec;
 
 use crate::summary::Summary;
 use std::alloc::{AllocError, Global};
 
-/// Returns the lines that tell `chains`, numbered from 1.
+/// Returns the lines of `chains`, numbered from 1.
 pub fn summary_text(alloc: Global, chains: &[Summary]) -> Result<String, AllocError>
     ensures { IfOk result (λ t. string_bytes t ≡ spec.chains_text 0 chains.now) }
 {
@@ -16,7 +16,7 @@ pub fn summary_text(alloc: Global, chains: &[Summary]) -> Result<String, AllocEr
     Ok(text)
 }
 
-/// Adds to `text` the lines of `chain`, whose number is `number`.
+/// Appends the lines of `chain`, whose number is `number`, to `text`.
 fn push_chain(
     alloc: Global,
     text: &mut String,
@@ -43,7 +43,7 @@ fn events_text(alloc: Global, number: u64, chain: &Summary) -> Result<String, Al
     )
 }
 
-/// Returns the lines of the requests of `chain` that got what they asked for, or were held in vain.
+/// Returns the lines of the requests of `chain` that were answered, timed out or closed.
 #[tactic(auto, unfolding(crate::specs::SummaryLines::answered_text))]
 fn answered_text(alloc: Global, chain: &Summary) -> Result<String, AllocError>
     ensures { IfOk result (λ t. string_bytes t ≡ spec.answered_text chain.now) }

@@ -1,4 +1,4 @@
-//! Records in format 2.
+//! How a record is written in format 2.
 ghost use Rattle.std.specs.Prelude.{◌≡◌, ◌≢◌, ◌++◌, ℕ, IfErr, IfOk, OnOk, None, Ok, Err, true};
 ghost use Rattle.ll_attr.specs.Words.{pieces_at};
 ghost use Rattle.ll_entry.specs.Chain.{Between, checked, checked_from, not_before};
@@ -8,13 +8,13 @@ ghost use Rattle.ll_item.specs.Settings.{Configuration};
 
 use ll_attr::after;
 use ll_check::{Checker, Told};
-use ll_enter::FullEntry;
 use ll_entry::{CheckFault, CheckKind, LAST_LINE, Version, ask_line, collect_line, header_text};
+use ll_entry_check::FullEntry;
 use std::alloc::{AllocError, Global};
 
-/// The same chunks in format 2, where a file of chunks is a faithful record; or the first entry at which it isn't one, and how, as
-/// [`check`](ll_check::check) has it. The words of settings and items stay as they are given. A request for `v2` in format 1 becomes one for `YES`, as
-/// it was answered.
+/// Returns the same chunks in format 2, if a file of chunks is a faithful record; else the first entry at which it is wrong, and how, as
+/// [`check`](ll_check::check) has it. The words of settings and items stay as they are. A request for `v2` in format 1 becomes one for
+/// `YES`, as it was answered.
 pub fn upgrade(alloc: Global, bytes: &[u8]) -> Result<Vec<u8>, CheckFault>
     ensures right { IfOk result (λ text. ((n : ℕ) × (checked bytes.now ≡ Ok n)) × (text.items ≡ upgraded bytes.now)) }
     ensures wrong { IfErr result (λ f. f.kind ≢ CheckKind.Memory → checked bytes.now ≡ Err f) }
@@ -24,7 +24,7 @@ pub fn upgrade(alloc: Global, bytes: &[u8]) -> Result<Vec<u8>, CheckFault>
     upgrade_by(alloc, &mut checker, bytes)
 }
 
-/// The same, by a checker to which nothing has come.
+/// Does the same with `checker`, to which no chunk has come.
 fn upgrade_by(alloc: Global, checker: &mut Checker, bytes: &[u8]) -> Result<Vec<u8>, CheckFault>
     requires { checker.old ≡ None }
     ensures right { IfOk result (λ text. ((n : ℕ) × (checked bytes.now ≡ Ok n)) × (text.items ≡ upgraded bytes.now)) }
@@ -46,7 +46,7 @@ fn upgrade_by(alloc: Global, checker: &mut Checker, bytes: &[u8]) -> Result<Vec<
     Ok(text)
 }
 
-/// Adds what lines that tell this are in format 2.
+/// Appends the lines that say `told`, in format 2.
 fn push_told(alloc: Global, text: &mut Vec<u8>, told: &Told<'_>) -> Result<(), AllocError>
     ensures { (c : Configuration) → OnOk result (text.new.items ≡ text.old.items ++ told_text c told.now) }
 {
@@ -62,7 +62,7 @@ fn push_told(alloc: Global, text: &mut Vec<u8>, told: &Told<'_>) -> Result<(), A
     Ok(())
 }
 
-/// Adds the line of an entry in format 2, where its line in a format is given.
+/// Appends the line of `entry` in format 2; `line` is its line in the format `version`.
 fn push_entry(
     alloc: Global,
     text: &mut Vec<u8>,
@@ -87,7 +87,7 @@ fn push_entry(
     }
 }
 
-/// What stands after the words of an item in format 2: the length of its media after a part, and there is none.
+/// Returns what follows the words of an item in format 2: after a part the length of its media, which is 0.
 fn media_text(line: &str) -> &'static str
     ensures { result.now ≡ spec.media_text line.now }
 {

@@ -1,4 +1,4 @@
-//! Entries in words.
+//! An entry in words.
 ghost use Rattle.std.specs.Prelude.{◌≡◌, ◌++◌, IfOk, string_bytes};
 ghost use Rattle.ll_explain.specs.Words as spec;
 
@@ -9,7 +9,8 @@ use ll_verdict::{Outcome, Reply};
 use std::alloc::{AllocError, Global};
 
 impl Explained<'_> {
-    /// The entry of this number in words, with its line, the channel's time before it, and the playlist that it brings, byte for byte.
+    /// Returns the entry with the number `entry` in words, with its line, the channel's time before it, and the playlist of its reply, byte
+    /// for byte.
     #[tactic(auto, unfolding(crate::specs::Words::explained_text))]
     pub fn text(&self, alloc: Global, entry: u64) -> Result<String, AllocError>
         ensures { IfOk result (λ t. string_bytes t ≡ spec.explained_text entry self.now.time self.now.line.now self.now.reply) }
@@ -23,7 +24,7 @@ impl Explained<'_> {
     }
 }
 
-/// What happens at the entry of a line, before what it gets.
+/// Returns what happens at the entry of a line, before what it gets.
 fn event_words(line: &str, reply: &Option<Reply>) -> &'static str
     ensures { result.now ≡ spec.event_words line.now reply.now }
 {
@@ -46,7 +47,7 @@ fn event_words(line: &str, reply: &Option<Reply>) -> &'static str
     }
 }
 
-/// What a reply comes to; nothing where there is none.
+/// Returns a reply in words; no text if there is none.
 fn reply_words(alloc: Global, reply: &Option<Reply>) -> Result<String, AllocError>
     ensures { IfOk result (λ t. string_bytes t ≡ spec.reply_words reply.now) }
 {
@@ -56,7 +57,7 @@ fn reply_words(alloc: Global, reply: &Option<Reply>) -> Result<String, AllocErro
     }
 }
 
-/// What a reply comes to.
+/// Returns an outcome in words.
 fn outcome_words(alloc: Global, outcome: Outcome) -> Result<String, AllocError>
     ensures { IfOk result (λ t. string_bytes t ≡ spec.outcome_words outcome) }
 {
@@ -72,7 +73,7 @@ fn outcome_words(alloc: Global, outcome: Outcome) -> Result<String, AllocError>
     }
 }
 
-/// A playlist after so many items.
+/// Returns the words for a playlist after `items` items.
 #[tactic(auto, unfolding(crate::specs::Words::text_words))]
 fn text_words(alloc: Global, items: u64, playlist: &str) -> Result<String, AllocError>
     ensures { IfOk result (λ t. string_bytes t ≡ spec.text_words items playlist.now) }
@@ -80,7 +81,7 @@ fn text_words(alloc: Global, items: u64, playlist: &str) -> Result<String, Alloc
     format!(in alloc; "{playlist} after {items} items")
 }
 
-/// Media of so many bytes after so many items.
+/// Returns the words for media of `length` bytes after `items` items.
 #[tactic(auto, unfolding(crate::specs::Words::media_words))]
 fn media_words(alloc: Global, items: u64, length: u64) -> Result<String, AllocError>
     ensures { IfOk result (λ t. string_bytes t ≡ spec.media_words items length) }
@@ -88,7 +89,7 @@ fn media_words(alloc: Global, items: u64, length: u64) -> Result<String, AllocEr
     format!(in alloc; "media of {length} bytes after {items} items")
 }
 
-/// A playlist that is a delta update of this kind, or a full one for none.
+/// Returns the words for a delta update of a kind; for a full playlist if there is none.
 fn playlist_words(update: Option<SkipKind>) -> &'static str
     ensures { result.now ≡ spec.playlist_words update }
 {
@@ -99,7 +100,7 @@ fn playlist_words(update: Option<SkipKind>) -> &'static str
     }
 }
 
-/// The playlist of a reply, and what stands before it.
+/// Returns the playlist of a reply, and what comes before it.
 fn playlist_text(reply: &Option<Reply>) -> (&'static str, &str)
     ensures { result.0.now ++ result.1.now ≡ spec.playlist_text reply.now }
 {

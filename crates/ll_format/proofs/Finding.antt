@@ -1,4 +1,4 @@
--- Where a byte is first found, a text is cut.
+-- A text is cut at the first place of a byte.
 use Rattle.std.proofs.Common.{◌≡◌, ◌≢◌, ℕ, zero, suc, ◌<◌, ◌==◌, not, List, [], ◌∷◌, length, get_or, take, drop, true, refl, ap, sym, ◌∙◌, arith}
 use Rattle.std.proofs.lemmas.Bool.{and_from, eq-eqb, ne_eqb, not_from_false}
 use Rattle.std.proofs.lemmas.List.{append-nil}

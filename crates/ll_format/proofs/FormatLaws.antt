@@ -1,4 +1,4 @@
--- What is read is spelled so, and what is spelled is read: both hold of a format where they hold of its pieces.
+-- What is read is spelled so, and what is spelled is read: both hold of a format if they hold of its pieces.
 use Rattle.std.proofs.Common.{◌≡◌, ℕ, List, [], ◌∷◌, ◌++◌, Bool, true, false, Option, Some, None, is_none, ◌==◌, not, refl, ap, sym, ◌∙◌, subst, append_assoc, codes, nat_eq, drop, length, bytes_eq, if◌then◌else◌}
 use Rattle.std.proofs.lemmas.Bool.{and_from, and_parts}
 use Rattle.std.proofs.lemmas.Bool.Decides.{Decides-eqb}
@@ -16,7 +16,7 @@ pub record WordLaws {A : Type 0} (w : Word A) : Type 0 where
   pub takes : (text : List ℕ) (x : A) → w.read text ≡ Some x → (text ≡ w.print x) × w.Within x
   -- what is spelled is read
   pub again : (x : A) → w.Within x → w.read (w.print x) ≡ Some x
-  -- what is spelled stands on one line
+  -- what is spelled is on one line
   pub inside : (x : A) → w.Within x → list_all is_line_byte (w.print x) ≡ true
 
 pub record FormatLaws {A : Type 0} (f : Format A) : Type 0 where
@@ -334,7 +334,7 @@ one_of-laws name all found inside = record {
   inside = λ t h. inside t;
 }
 
--- its name finds the tag, holds no colon and stands on one line
+-- its name finds the tag, has no colon and is on one line
 abbrev pub IsNamed : {T : Type 0} → (T → List ℕ) → List T → T → Type 0
 IsNamed name all t = (named name all (name t) ≡ Some t) × (lacks 58 (name t) ≡ true) × (list_all is_line_byte (name t) ≡ true)
 

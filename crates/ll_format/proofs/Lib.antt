@@ -1,3 +1,4 @@
+-- Laws of formats and words, and lemmas of dates and times.
 pub mod FormatLaws
 pub mod WordLaws
 pub mod SeparatedLaws

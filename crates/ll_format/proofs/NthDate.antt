@@ -1,4 +1,4 @@
--- The n-th date has the day number n, and so it is the date that jiff gives for that day.
+-- The n-th date has the day number n, and so it is the date that jiff returns for that day.
 use Rattle.std.proofs.Common.{◌≡◌, ℕ, zero, suc, ◌+◌, ◌<◌, ◌≤◌, Bool, true, false, nat_lt, refl, sym, ap, ◌∙◌, arith, rules, pos, unsigned_abs, w64, to_z}
 use Rattle.std.proofs.lemmas.Bool.Decides.{nat_tests}
 use Rattle.jiff_core.specs.Calendar.{days_in_month, days_from_civil, IsCivilDate}

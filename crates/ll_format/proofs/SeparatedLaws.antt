@@ -25,7 +25,7 @@ without c (b ∷ bs) h =
     let p = and_parts (is_byte_between c b) (list_all (is_byte_between c) bs) h in
     (is_false (b == c) (and_parts (is_quoted_byte b) (not (b == c)) p.0).1, without c bs p.1)
 
--- joined texts are cut where they were joined
+-- joined texts are cut at the places where they were joined
 cut_again : (c : ℕ) (text : List ℕ) (more : List (List ℕ)) → (c == c) ≡ true → list_all (list_all (is_byte_between c)) (text ∷ more) ≡ true
     → pieces_at c (join_with_byte c (text ∷ more)) ≡ text ∷ more
 cut_again c text [] is h =

@@ -1,4 +1,4 @@
--- What stands after the last separator is digits or nothing that counts: a further separator there leaves it no number.
+-- What follows the last separator is digits, or it isn't a number: with a further separator in it, it never is.
 use Rattle.std.proofs.Common.{◌≡◌, ℕ, ◌<◌, ◌==◌, ◌&&◌, Bool, true, false, List, [], ◌∷◌, length, refl, ap, sym, ◌∙◌, arith, Option, Some, None}
 use Rattle.std.proofs.lemmas.Bool.Decides.{nat_tests}
 use Rattle.std.proofs.lemmas.List.Elements.{All-from_recursion}

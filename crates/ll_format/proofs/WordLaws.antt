@@ -162,7 +162,7 @@ rest_of_line-laws = text_if-laws is_rest (λ text h. (and_parts (nat_le 1 (lengt
 pub quotable-laws : WordLaws quotable
 quotable-laws = text_if-laws is_quotable (λ text h. inside_from is_quoted_byte text refl refl h)
 
--- no separator stands in a word
+-- a word has no separator in it
 pub number-lacks : (c most n : ℕ) → is_figure c ≡ false → most < 2 ^ 64 → n ≤ most → lacks c (decimal n) ≡ true
 number-lacks c most n none in_word small = lacks_from is_figure c (decimal n) none (number_figures most n in_word small)
 

@@ -6,7 +6,7 @@ use Rattle.jiff_core.specs.Calendar.{days_in_month}
 use Rattle.ll_attr.specs.Numbers.{number_in}
 use Rattle.ll_attr.specs.Words.{pieces_at}
 
--- the number that just so many decimal digits spell
+-- the number that exactly `count` decimal digits spell
 abbrev pub number_of : ℕ → List ℕ → Option ℕ
 number_of count text = if length text == count then number_in count text else None
 
@@ -49,7 +49,7 @@ digits_before (b ∷ bs) = if is_ascii_digit b then 1 + digits_before bs else 0
 abbrev pub is_fraction : List ℕ → Bool
 is_fraction text = nat_le 1 (digits_before text) && nat_le (digits_before text) 9 && is_offset (drop (digits_before text) text)
 
--- an offset, after a fraction of a second or none
+-- an offset, optionally after a fraction of a second
 abbrev pub is_rest : List ℕ → Bool
 is_rest [] = false
 is_rest (b ∷ bs) = if b == 46 then is_fraction bs else is_offset (b ∷ bs)
@@ -58,6 +58,6 @@ abbrev pub is_time : List ℕ → Bool
 is_time [] = false
 is_time (b ∷ bs) = b == 84 && time_of_day (pieces_at 58 (take 8 bs)) && is_rest (drop 8 bs)
 
--- `YYYY-MM-DDThh:mm:ss`, then perhaps `.` and 1 to 9 digits, then `Z`, `+hh:mm` or `-hh:mm`
+-- `YYYY-MM-DDThh:mm:ss`, optionally `.` and 1 to 9 digits, then `Z`, `+hh:mm` or `-hh:mm`
 abbrev pub is_date_time : List ℕ → Bool
 is_date_time text = is_date (take 10 text) && is_time (drop 10 text)

@@ -1,5 +1,5 @@
--- Formats. A format says once how values are spelled and how they are read: a `Word` as a whole text, a `Format` as the
--- prefix of a text. The laws are that what is read is spelled so, and that what is spelled is read again (proofs/FormatLaws).
+-- Formats. A format states once how values are spelled and how they are read: a `Word` as a whole text, a `Format` as the
+-- prefix of a text. Their laws: what is read is spelled so, and what is spelled is read again (proofs/FormatLaws).
 use Rattle.std.specs.Prelude.{◌≡◌, ℕ, List, [], ◌∷◌, ◌++◌, Bool, true, false, Option, Some, None, is_none, ◌==◌, bytes_eq, codes, if◌then◌else◌}
 use Rattle.ll_attr.specs.Words.{after}
 
@@ -7,16 +7,16 @@ use Rattle.ll_attr.specs.Words.{after}
 pub record Word (A : Type 0) : Type 1 where
   pub print : A → List ℕ
   pub read : List ℕ → Option A
-  -- which values are spelled so that they are read again
+  -- the values that are read again from their spelling
   pub Within : A → Type 0
 
 -- values that are the prefix of a text
 pub record Format (A : Type 0) : Type 1 where
   pub print : A → List ℕ
-  -- the value, and what stands after it
+  -- the value, and the rest of the text after it
   pub read : List ℕ → Option (A × List ℕ)
   pub Within : A → Type 0
-  -- whether the value ends where this rest begins
+  -- whether the value is read up to where `rest` begins
   pub ends : A → List ℕ → Bool
 
 -- one value or the other
@@ -36,7 +36,7 @@ abbrev pub until_by : Bool → ℕ → List ℕ → List ℕ × List ℕ → Lis
 until_by true b bs more = ([], b ∷ bs)
 until_by false b bs more = (b ∷ more.0, more.1)
 
--- what stands before the first such byte, or everything, and the rest from that byte on
+-- what is before the first byte c, or everything, and the rest from that byte on
 abbrev pub until : ℕ → List ℕ → List ℕ × List ℕ
 until c [] = ([], [])
 until c (b ∷ bs) = until_by (b == c) b bs (until c bs)
@@ -45,7 +45,7 @@ abbrev pub stops_at : ℕ → List ℕ → Bool
 stops_at c [] = true
 stops_at c (b ∷ bs) = b == c
 
--- a word up to the next such byte, or up to the end
+-- a word up to the next byte c, or up to the end
 abbrev pub up_to : {A : Type 0} → ℕ → Word A → Format A
 up_to c w = record {
   print = w.print;
@@ -63,7 +63,7 @@ to_end w = record {
   ends = λ x rest. bytes_eq rest [];
 }
 
--- a format and another one after it
+-- one format after the other
 abbrev pub beside : {A B : Type 0} → Format A → Format B → Format (A × B)
 beside f g = record {
   print = λ p. f.print p.0 ++ g.print p.1;
@@ -90,7 +90,7 @@ before_key f k = record {
   ends = λ x rest. f.ends x (k ++ rest);
 }
 
--- a word in quotation marks, the first of which belongs to the key before it
+-- a word in quotation marks; the opening one belongs to the key before it
 abbrev pub quoted : {A : Type 0} → Word A → Format A
 quoted w = before_key (up_to 34 w) (codes "\"")
 
@@ -109,7 +109,7 @@ flag_ends k false rest = is_none (after k rest)
 abbrev pub Always : {A : Type 0} → A → Type 0
 Always x = Unit {0}
 
--- a key that stands there or doesn't
+-- whether a key is there
 abbrev pub flag : List ℕ → Format Bool
 flag k = record {
   print = flag_text k;
@@ -130,12 +130,12 @@ abbrev pub optional_ends : {A : Type 0} → List ℕ → Format A → Option A �
 optional_ends k f (Some x) rest = f.ends x rest
 optional_ends k f None rest = is_none (after k rest)
 
--- P holds of the value, where there is one
+-- P holds of the value, if there is one
 abbrev pub Where : {A : Type 0} → (A → Type 0) → Option A → Type 0
 Where P (Some x) = P x
 Where P None = Unit {0}
 
--- a key and a format after it, or neither
+-- a key with a format after it, or neither
 abbrev pub optional : {A : Type 0} → List ℕ → Format A → Format (Option A)
 optional k f = record {
   print = optional_text k f;
@@ -179,7 +179,7 @@ tested test w = record {
   Within = λ x. w.Within x × (test (w.print x) ≡ true);
 }
 
--- the first of these that has this name
+-- the first element of the list that has this name
 abbrev pub named : {T : Type 0} → (T → List ℕ) → List T → List ℕ → Option T
 named name [] text = None
 named name (t ∷ more) text = if bytes_eq text (name t) then Some t else named name more text
@@ -192,7 +192,7 @@ one_of name all = record {
   Within = Always;
 }
 
--- a name, a colon and what is said under this name
+-- a name, a colon, and the value that belongs to this name
 abbrev pub by_name : {T : Type 0} → {Said : T → Type 0} → (T → List ℕ) → List T → ((t : T) → Word (Said t)) → Word ((t : T) × Said t)
 by_name name all word = record {
   print = λ p. name p.0 ++ (58 ∷ (word p.0).print p.1);
@@ -212,7 +212,7 @@ abbrev pub EitherWithin : {A B : Type 0} → Word A → Word B → Either A B �
 EitherWithin v w (Left x) = v.Within x
 EitherWithin v w (Right y) = w.Within y
 
--- the first word where the text passes a test, else the second
+-- the first word if the text passes the test, else the second
 abbrev pub choice : {A B : Type 0} → (List ℕ → Bool) → Word A → Word B → Word (Either A B)
 choice test v w = record {
   print = either_text v w;

@@ -19,6 +19,6 @@ time_of date millis =
     ++ (digits_2 (millis / 3600000) ++ (codes ":" ++ (digits_2 (millis / 60000 % 60) ++ (codes ":"
     ++ (digits_2 (millis / 1000 % 60) ++ (codes "." ++ (digits_3 (millis % 1000) ++ codes "Z"))))))))))))
 
--- the milliseconds since 1970-01-01T00:00:00Z as a date and a time of day, with no leap seconds
+-- the milliseconds since 1970-01-01T00:00:00Z as a date and a time of day, not counting leap seconds
 abbrev pub time_text : ℕ → List ℕ
 time_text millis = time_of (nth_date (millis / 86400000)) (millis % 86400000)

@@ -1,4 +1,4 @@
--- Words that lines are made of: numbers, durations, URIs, texts and lists of texts.
+-- Words that lines are made of: numbers, durations, URIs, texts and lists of texts (section 4.2).
 use Rattle.std.specs.Prelude.{ℕ, true, false, ◌^◌, ◌≤◌, ◌<◌, ◌≡◌, ◌==◌, ◌&&◌, ◌||◌, not, List, [], ◌∷◌, Bool, Option, Some, None, length, nat_le, bytes_eq, decimal, if◌then◌else◌}
 use Rattle.std.specs.List.{list_all, join_with_byte}
 use Rattle.ll_attr.specs.Attributes.{is_quoted_byte}
@@ -7,15 +7,15 @@ use Rattle.ll_attr.specs.Numbers.{number_in}
 use Rattle.ll_attr.specs.Words.{pieces_at}
 use Rattle.ll_format.specs.Format.{Word}
 
--- neither CR nor LF
+-- a byte other than CR and LF
 abbrev pub is_line_byte : ℕ → Bool
 is_line_byte b = not (b == 13 || b == 10)
 
--- whether a text stands on one line
+-- whether a text is on one line
 abbrev pub is_one_line : List ℕ → Bool
 is_one_line text = list_all is_line_byte text
 
--- the number that was read, where it is spelled so
+-- the number that was read, if `text` is how it is spelled
 abbrev pub spelled_by : Option ℕ → (ℕ → List ℕ) → List ℕ → Option ℕ
 spelled_by None spelled text = None
 spelled_by (Some n) spelled text = if bytes_eq (spelled n) text then Some n else None
@@ -24,7 +24,7 @@ abbrev pub at_most : ℕ → Option ℕ → Option ℕ
 at_most most None = None
 at_most most (Some n) = if nat_le n most then Some n else None
 
--- a number without leading zeros that is no larger than this one
+-- a number of at most `most`, without leading zeros
 abbrev pub number : ℕ → Word ℕ
 number most = record {
   print = decimal;
@@ -32,11 +32,11 @@ number most = record {
   Within = λ n. n ≤ most;
 }
 
--- microseconds of 12 digits of whole seconds
+-- the end of the durations that are written: 10^12 seconds, in microseconds
 abbrev pub duration_end : ℕ
 duration_end = 10 ^ 18
 
--- microseconds, spelled as seconds with six decimals and without leading zeros
+-- microseconds, spelled as seconds with six decimals and without leading zeros (rule 1)
 abbrev pub duration : Word ℕ
 duration = record {
   print = seconds;
@@ -52,14 +52,14 @@ text_if test = record {
   Within = λ text. test text ≡ true;
 }
 
--- whether a text may stand in quotation marks
+-- whether a text is allowed in quotation marks
 abbrev pub is_quotable : List ℕ → Bool
 is_quotable text = list_all is_quoted_byte text
 
 abbrev pub quotable : Word (List ℕ)
 quotable = text_if is_quotable
 
--- one or more bytes that may stand in quotation marks
+-- one or more bytes that are allowed in quotation marks
 abbrev pub is_uri : List ℕ → Bool
 is_uri text = nat_le 1 (length text) && is_quotable text
 
@@ -73,21 +73,21 @@ is_rest text = nat_le 1 (length text) && is_one_line text
 abbrev pub rest_of_line : Word (List ℕ)
 rest_of_line = text_if is_rest
 
--- the texts between single bytes, and none in the empty text
+-- the texts between bytes c; the empty text has none
 abbrev pub cut_at : ℕ → List ℕ → List (List ℕ)
 cut_at c [] = []
 cut_at c (b ∷ bs) = pieces_at c (b ∷ bs)
 
--- a byte that may stand in quotation marks and separates no texts
+-- a byte that is allowed in quotation marks and isn't the separator c
 abbrev pub is_byte_between : ℕ → ℕ → Bool
 is_byte_between c b = is_quoted_byte b && not (b == c)
 
--- whether this is a list of the empty text alone, which is spelled as no text is
+-- whether this is the list of the empty text alone, which would be spelled like the empty list
 abbrev pub is_one_empty : List (List ℕ) → Bool
 is_one_empty ([] ∷ []) = true
 is_one_empty texts = false
 
--- texts that may stand in quotation marks, with one such byte between two of them
+-- texts that are allowed in quotation marks, with one separator c between two of them
 abbrev pub separated : ℕ → Word (List (List ℕ))
 separated c = record {
   print = join_with_byte c;

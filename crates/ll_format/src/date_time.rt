@@ -1,4 +1,4 @@
-//! Dates with a time of day and an offset from UTC, read.
+//! Checks dates with a time of day and an offset from UTC (section 4.4.5.1).
 ghost use Rattle.std.specs.Prelude.{◌≡◌, ◌^◌, ◌<◌, IfSome};
 ghost use Rattle.ll_attr.specs.Words.{pieces_at};
 ghost use Rattle.ll_format.specs.Dates.{number_of};
@@ -7,9 +7,10 @@ ghost use Rattle.ll_format.specs.Dates as spec;
 use jiff_core::civil::Date;
 use ll_attr::{after, cut, parse_number};
 
-/// Whether a text is a date with a time of day and an offset from UTC, to the nanosecond at most: `YYYY-MM-DDThh:mm:ss`,
-/// perhaps `.` and 1 to 9 digits, then `Z`, `+hh:mm` or `-hh:mm` (section 4.4.5.1 of draft-pantos-hls-rfc8216bis, after
-/// ISO 8601). The date is one of the calendar, from the year 0 on, and no minute has a 61st second.
+/// Returns whether `text` is a date with a time of day and an offset from UTC, to the nanosecond at most:
+/// `YYYY-MM-DDThh:mm:ss`, optionally `.` and 1 to 9 digits, then `Z`, `+hh:mm` or `-hh:mm` (section 4.4.5.1 of
+/// draft-pantos-hls-rfc8216bis, after ISO 8601). The date is one of the calendar, from the year 0 on, and no minute has
+/// a 61st second.
 pub fn is_date_time(text: &str) -> bool
     ensures { result ≡ spec.is_date_time text.now }
 {
@@ -19,7 +20,7 @@ pub fn is_date_time(text: &str) -> bool
     is_date(date) && is_time(time)
 }
 
-/// Whether a text is `YYYY-MM-DD`, a day of the calendar.
+/// Returns whether `text` is `YYYY-MM-DD`, a day of the calendar.
 fn is_date(text: &str) -> bool
     ensures { result ≡ spec.is_date text.now }
 {
@@ -32,7 +33,7 @@ fn is_date(text: &str) -> bool
     is_day(year, month, day)
 }
 
-/// Whether a year, a month and a day are spelled in four, two and two digits, and are a day of the calendar.
+/// Returns whether `year`, `month` and `day` are spelled in four, two and two digits and are a day of the calendar.
 fn is_day(year: &str, month: &str, day: &str) -> bool
     ensures { result ≡ spec.is_day (number_of 4 year.now) (number_of 2 month.now) (number_of 2 day.now) }
 {
@@ -48,7 +49,7 @@ fn is_day(year: &str, month: &str, day: &str) -> bool
     Date::new(year as i16, month as i8, day as i8).is_ok()
 }
 
-/// Whether a text is `Thh:mm:ss`, perhaps a fraction of a second, and an offset.
+/// Returns whether `text` is `Thh:mm:ss`, optionally a fraction of a second, and an offset.
 fn is_time(text: &str) -> bool
     ensures { result ≡ spec.is_time text.now }
 {
@@ -61,7 +62,7 @@ fn is_time(text: &str) -> bool
     is_time_of_day(time) && is_rest(rest)
 }
 
-/// Whether a text is `hh:mm:ss`.
+/// Returns whether `text` is `hh:mm:ss`.
 fn is_time_of_day(text: &str) -> bool
     ensures { result ≡ spec.time_of_day (pieces_at 58 text.now) }
 {
@@ -74,7 +75,7 @@ fn is_time_of_day(text: &str) -> bool
     is_at_most(hours, 23) && is_at_most(minutes, 59) && is_at_most(seconds, 59)
 }
 
-/// Whether a text is an offset, after a fraction of a second or none.
+/// Returns whether `text` is an offset, optionally after a fraction of a second.
 fn is_rest(text: &str) -> bool
     ensures { result ≡ spec.is_rest text.now }
 {
@@ -84,7 +85,7 @@ fn is_rest(text: &str) -> bool
     }
 }
 
-/// Whether a text is 1 to 9 digits and an offset.
+/// Returns whether `text` is 1 to 9 digits and an offset.
 fn is_fraction(text: &str) -> bool
     ensures { result ≡ spec.is_fraction text.now }
 {
@@ -95,7 +96,7 @@ fn is_fraction(text: &str) -> bool
     1 <= count && count <= 9 && is_offset(offset)
 }
 
-/// How many decimal digits a text begins with.
+/// Returns the number of decimal digits that `text` begins with.
 fn digits_before(text: &str) -> usize
     ensures { result ≡ spec.digits_before text.now }
 {
@@ -107,7 +108,7 @@ fn digits_before(text: &str) -> usize
     text.len()
 }
 
-/// Whether a text is `Z`, `+hh:mm` or `-hh:mm`.
+/// Returns whether `text` is `Z`, `+hh:mm` or `-hh:mm`.
 fn is_offset(text: &str) -> bool
     ensures { result ≡ spec.is_offset text.now }
 {
@@ -120,7 +121,7 @@ fn is_offset(text: &str) -> bool
     text == "Z"
 }
 
-/// Whether a text is `hh:mm`.
+/// Returns whether `text` is `hh:mm`.
 fn is_hours_and_minutes(text: &str) -> bool
     ensures { result ≡ spec.offset_of (pieces_at 58 text.now) }
 {
@@ -130,7 +131,7 @@ fn is_hours_and_minutes(text: &str) -> bool
     }
 }
 
-/// Whether two decimal digits spell a number no larger than this.
+/// Returns whether `text` is two decimal digits that spell at most `most`.
 fn is_at_most(text: &str, most: u64) -> bool
     ensures { result ≡ spec.is_at_most most (number_of 2 text.now) }
 {
@@ -140,7 +141,7 @@ fn is_at_most(text: &str, most: u64) -> bool
     }
 }
 
-/// The number that just so many decimal digits spell.
+/// Parses exactly `count` decimal digits.
 fn number(text: &str, count: usize) -> Option<u64>
     ensures value { result ≡ number_of count text.now }
     ensures bound { IfSome result (λ n. n < 10 ^ count) }

@@ -1,4 +1,4 @@
-//! Numbers with leading zeros.
+//! Numbers written with leading zeros, in two, three or four digits.
 ghost use Rattle.std.specs.Prelude.{Some};
 ghost use Rattle.ll_format.specs.Times.{digits_2, digits_3, digits_4};
 

@@ -1,4 +1,5 @@
-//! The value that a text begins with, and what stands after it.
+//! Readers of the value that a text begins with. Each returns the value and the rest of the text after it,
+//! and takes no memory.
 ghost use Rattle.std.specs.Prelude.{◌≡◌, Some};
 ghost use Rattle.std.specs.Option.{option_map};
 ghost use Rattle.ll_format.specs.Format.{up_to, quoted, flag};
@@ -7,7 +8,7 @@ ghost use Rattle.ll_format.specs.Words as words;
 use crate::value::{duration, is_quotable, is_uri, number, until};
 use ll_attr::after;
 
-/// A number up to a comma or the end, where it is no larger than `most`.
+/// Reads a number, at most `most`, up to a comma or the end.
 pub fn number_at(text: &str, most: u64) -> Option<(u64, &str)>
     ensures { (up_to 44 (words.number most)).read text.now ≡ option_map (λ r. (r.0, r.1.now)) result }
 {
@@ -15,7 +16,7 @@ pub fn number_at(text: &str, most: u64) -> Option<(u64, &str)>
     Some((number(digits, most)?, rest))
 }
 
-/// The microseconds of a duration up to a comma or the end.
+/// Reads a duration up to a comma or the end, as microseconds.
 pub fn duration_at(text: &str) -> Option<(u64, &str)>
     ensures { (up_to 44 words.duration).read text.now ≡ option_map (λ r. (r.0, r.1.now)) result }
 {
@@ -23,7 +24,7 @@ pub fn duration_at(text: &str) -> Option<(u64, &str)>
     Some((duration(seconds)?, rest))
 }
 
-/// A URI up to the quotation mark that ends it.
+/// Reads a URI up to the quotation mark that ends it; the rest begins after that mark.
 pub fn uri_at(text: &str) -> Option<(&str, &str)>
     ensures { (quoted words.uri).read text.now ≡ option_map (λ r. (r.0.now, r.1.now)) result }
 {
@@ -34,7 +35,7 @@ pub fn uri_at(text: &str) -> Option<(&str, &str)>
     Some((uri, after(rest, "\"")?))
 }
 
-/// A text up to the quotation mark that ends it.
+/// Reads a text up to the quotation mark that ends it; the rest begins after that mark.
 pub fn quoted_at(text: &str) -> Option<(&str, &str)>
     ensures { (quoted words.quotable).read text.now ≡ option_map (λ r. (r.0.now, r.1.now)) result }
 {
@@ -45,7 +46,7 @@ pub fn quoted_at(text: &str) -> Option<(&str, &str)>
     Some((inner, after(rest, "\"")?))
 }
 
-/// Whether this key stands there.
+/// Returns whether `text` begins with `key`, and what follows it, or the whole text if it doesn't.
 pub fn flag_at<'a>(text: &'a str, key: &str) -> (bool, &'a str)
     ensures { (flag key.now).read text.now ≡ Some (result.0, result.1.now) }
 {

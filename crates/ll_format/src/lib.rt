@@ -1,6 +1,6 @@
-//! Formats: how values are spelled in a line, said once for reading and writing; and moments in UTC, as playlists spell them, and the dates
-//! and times that date ranges hold. The definitions and their laws are in `specs/` and `proofs/`; here are the small readers that every
-//! reader of lines is made of. None of them takes memory.
+//! Formats: how values are spelled in a line, stated once for reading and writing; moments in UTC as playlists spell them; and the dates
+//! and times of date ranges. `specs/` has the definitions, `proofs/` their laws, `src/` the small readers of which every reader of lines is
+//! made. None of them takes memory.
 #![tactic(auto)]
 
 mod calendar;

@@ -1,3 +1,4 @@
+//! Moments in UTC, written as EXT-X-PROGRAM-DATE-TIME spells them (section 4.4.4.6).
 ghost use Rattle.std.specs.Prelude.{◌≡◌, ◌≤◌, ◌<◌, MatchOption, Some};
 ghost use Rattle.ll_attr.specs.YearEnd.{last_milli};
 ghost use Rattle.ll_format.specs.Times.{time_text};
@@ -7,12 +8,12 @@ use crate::digits::{FourDigits, ThreeDigits, TwoDigits};
 use std::fmt;
 use std::marker::Model;
 
-/// The last millisecond of the year 9999, from 1970 on.
+/// The last millisecond of the year 9999, counted from 1970-01-01T00:00:00Z.
 const LAST_MILLI: u64 = 253_402_300_799_999;
 
 const MILLIS_PER_DAY: u64 = 86_400_000;
 
-/// A moment in UTC, to the millisecond, from 1970 to the end of the year 9999. It is shown as EXT-X-PROGRAM-DATE-TIME
+/// A moment in UTC, to the millisecond, from 1970 to the end of the year 9999. It is written as EXT-X-PROGRAM-DATE-TIME
 /// spells it, `YYYY-MM-DDThh:mm:ss.mmmZ` (section 4.4.4.6 of draft-pantos-hls-rfc8216bis).
 #[derive(Clone, Copy, Debug)]
 pub struct UtcTime {
@@ -33,7 +34,7 @@ impl Model for UtcTime {
 }
 
 impl UtcTime {
-    /// The moment so many milliseconds after 1970-01-01T00:00:00Z, where leap seconds don't count. `None` says that it is
+    /// Returns the moment `millis` milliseconds after 1970-01-01T00:00:00Z, not counting leap seconds, or `None` if it is
     /// past the year 9999.
     pub fn at(millis: u64) -> Option<UtcTime>
         ensures { MatchOption result (last_milli < millis) (λ t. (t ≡ millis) × (millis ≤ last_milli)) }

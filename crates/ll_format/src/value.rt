@@ -1,4 +1,4 @@
-//! Words, read without memory.
+//! Readers of values that are a whole text each: numbers, durations, URIs and texts. None of them takes memory.
 ghost use Rattle.std.specs.Prelude.{◌≡◌, ◌<◌};
 ghost use Rattle.ll_format.specs.Format as format;
 ghost use Rattle.ll_format.specs.Words as words;
@@ -6,7 +6,7 @@ ghost use Rattle.ll_format.specs.Words as words;
 use itoa::Buffer;
 use ll_attr::{cut, parse_micros, parse_number};
 
-/// The number that a text spells without leading zeros, where it is no larger than `most`.
+/// Parses a number without leading zeros that is at most `most`.
 pub fn number(text: &str, most: u64) -> Option<u64>
     ensures { result ≡ (words.number most).read text.now }
 {
@@ -19,7 +19,7 @@ pub fn number(text: &str, most: u64) -> Option<u64>
     }
 }
 
-/// The microseconds of seconds without leading zeros, a point and six digits.
+/// Parses seconds without leading zeros, a point and six digits, as microseconds.
 pub fn duration(text: &str) -> Option<u64>
     ensures { result ≡ words.duration.read text.now }
 {
@@ -33,35 +33,36 @@ pub fn duration(text: &str) -> Option<u64>
     }
 }
 
-/// Whether a text may stand in quotation marks: no quotation mark, CR or LF is in it.
+/// Returns whether `text` is allowed in quotation marks: it has no quotation mark, CR or LF.
 pub fn is_quotable(text: &str) -> bool
     ensures { result ≡ words.is_quotable text.now }
 {
     text.bytes().all(|b| b != b'"' && b != b'\r' && b != b'\n')
 }
 
-/// Whether a text is a URI as lines quote it: one or more bytes that may stand in quotation marks.
+/// Returns whether `text` is a URI as lines quote it: one or more bytes that are allowed in quotation marks.
 pub fn is_uri(text: &str) -> bool
     ensures { result ≡ words.is_uri text.now }
 {
     !text.is_empty() && is_quotable(text)
 }
 
-/// Whether a text is one or more bytes other than CR and LF.
+/// Returns whether `text` is one or more bytes other than CR and LF.
 pub fn is_rest(text: &str) -> bool
     ensures { result ≡ words.is_rest text.now }
 {
     !text.is_empty() && is_one_line(text)
 }
 
-/// Whether no byte of a text is CR or LF.
+/// Returns whether `text` has no CR or LF.
 fn is_one_line(text: &str) -> bool
     ensures { result ≡ words.is_one_line text.now }
 {
     text.bytes().all(|b| b != b'\r' && b != b'\n')
 }
 
-/// What stands before the first such character, or everything, and the rest from that character on. It is ASCII.
+/// Returns what is before the first `end`, an ASCII character, and the rest from that character on, or the whole
+/// text and nothing if it has none.
 pub fn until(text: &str, end: char) -> (&str, &str)
     requires { end < 128 }
     ensures { format.until end text.now ≡ (result.0.now, result.1.now) }

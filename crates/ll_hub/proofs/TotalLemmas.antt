@@ -4,9 +4,9 @@ use Rattle.std.specs.Prelude.{IsTrue}
 use Rattle.ll_item.specs.Settings.{Configuration}
 use Rattle.ll_record.specs.Recording.{Recording}
 use Rattle.ll_hub.specs.Calls.{AreTotals}
-use Rattle.ll_locked.specs.Section.{IsAt}
-use Rattle.ll_locked.specs.Told.{IsTotal}
-use Rattle.ll_locked.specs.declared.total.Total.{Total}
+use Rattle.ll_hub_channel.specs.Section.{IsAt}
+use Rattle.ll_hub_channel.specs.Told.{IsTotal}
+use Rattle.ll_hub_channel.specs.declared.total.Total.{Total}
 
 -- what holds of each element at its place, and of one more at the end
 each-more : {A : Type 0} (P : ℕ → A → Type 0) (xs : List A) (x : A) → ((i : ℕ) (y : A) → slice_get xs i ≡ Some y → P i y) → P (length xs) x

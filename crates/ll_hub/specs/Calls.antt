@@ -1,4 +1,4 @@
--- What the calls of a hub answer. A hub is the settings of its channels, a pass what its caller has seen of each.
+-- The results of a hub's calls. A hub is the settings of its channels, a pass what its caller has seen of each.
 use Rattle.std.specs.Prelude.{◌≡◌, ◌≢◌, ◌<◌, ◌≤◌, ℕ, ⊤, List, Option, Some, None, length, slice_get}
 use Rattle.ll_directive.specs.Targets.{WantValue}
 use Rattle.ll_item.specs.Settings.{Configuration}
@@ -11,24 +11,24 @@ use Rattle.ll_verdict.specs.declared.reply.Reply.{Reply}
 use Rattle.ll_verdict.specs.declared.standing.Standing.{Standing}
 use Rattle.ll_hub.specs.Claim.{ClaimValue}
 use Rattle.ll_hub.specs.Passes.{noted, noted_reply}
-use Rattle.ll_locked.specs.Told.{IsAccepted, IsAnswered, IsAskRefused, IsDecided, IsHandedOut, IsHeld, IsReadingRefused, IsRefused, IsStanding, IsTotal}
+use Rattle.ll_hub_channel.specs.Told.{IsAccepted, IsAnswered, IsAskRefused, IsDecided, IsHandedOut, IsHeld, IsReadingRefused, IsRefused, IsStanding, IsTotal}
 use Rattle.ll_record.specs.Chunk.{ChunkValue}
 use Rattle.ll_record.specs.Taken.{TakenChunk, Takes}
-use Rattle.ll_locked.specs.declared.fault.HubFault.{HubFault}
-use Rattle.ll_locked.specs.declared.fault.HubFault.TheVariants.{UnknownChannel, WentBack, Room, Stranger, Short, Memory}
-use Rattle.ll_locked.specs.declared.fault.RoomFault.TheVariants as room
-use Rattle.ll_locked.specs.declared.total.Total.{Total}
+use Rattle.ll_hub_channel.specs.declared.fault.HubFault.{HubFault}
+use Rattle.ll_hub_channel.specs.declared.fault.HubFault.TheVariants.{UnknownChannel, WentBack, Room, Stranger, Short, Memory}
+use Rattle.ll_hub_channel.specs.declared.fault.RoomFault.TheVariants as room
+use Rattle.ll_hub_channel.specs.declared.total.Total.{Total}
 use Rattle.ll_hub.specs.declared.hub.HubAsked.{HubAsked}
 use Rattle.ll_hub.specs.declared.hub.HubAsked.TheVariants.{Now, Held}
 use Rattle.ll_hub.specs.declared.hub.Waited.{Waited}
 use Rattle.ll_hub.specs.declared.hub.Waited.TheVariants as waited
 
--- the channel at this place has these settings, and a caller has seen so many items of it
+-- the channel at `place` has these settings, and a caller has seen `seen` items of it
 pub record IsKnown (hub : List Configuration) (passed : List ℕ) (place : ℕ) (settings : Configuration) (seen : ℕ) : Type 0 where
   pub channel : slice_get hub place ≡ Some settings
   pub pass : slice_get passed place ≡ Some seen
 
--- why the lock of the channel at this place isn't reached, where the caller has seen this of it
+-- why the lock of the channel at `place` isn't reached, if the caller has seen `seen` of it
 abbrev pub IsUnreached : List Configuration → ℕ → Option ℕ → HubFault → Type 0
 IsUnreached hub place seen UnknownChannel = slice_get hub place ≡ None
 IsUnreached hub place seen Stranger = (seen ≡ None) × (settings : Configuration) × (slice_get hub place ≡ Some settings)
@@ -43,7 +43,7 @@ IsSeatFault other = ⊥
 
 -- ---- publish
 
--- an item was accepted by the channel at this place
+-- an item was accepted by the channel at `place`
 pub record IsPublished (hub : List Configuration) (place : ℕ) (item : Item) (before after : List ℕ) (mark : StampedValue ℕ) : Type 0 where
   pub settings : Configuration
   pub seen : ℕ
@@ -53,20 +53,20 @@ pub record IsPublished (hub : List Configuration) (place : ℕ) (item : Item) (b
   pub accepted : IsAccepted settings item seen mark.value
   pub passed : after ≡ noted before place mark.value
 
--- an item was refused by the room of the channel at this place; memory that isn't found says nothing of the item
+-- an item was refused by the room of the channel at `place`; Memory says nothing of the item
 pub record IsItemRefused (hub : List Configuration) (place : ℕ) (item : Item) (before : List ℕ) (fault : PublishFault) : Type 0 where
   pub settings : Configuration
   pub seen : ℕ
   pub known : IsKnown hub before place settings seen
   pub refused : fault ≢ refused.Memory → IsRefused settings item seen fault
 
--- as much was counted as is counted, before the room of the channel at this place was asked
+-- the limit of what is counted was reached, before the room of the channel at `place` was asked
 pub record IsCountedOut (hub : List Configuration) (place : ℕ) (before : List ℕ) : Type 0 where
   pub settings : Configuration
   pub seen : ℕ
   pub known : IsKnown hub before place settings seen
 
--- what every call may be refused for before its room is asked
+-- the faults of every call before its room is asked
 abbrev pub IsUnmet : List Configuration → List ℕ → ℕ → HubFault → Type 0
 IsUnmet hub before place UnknownChannel = slice_get hub place ≡ None
 IsUnmet hub before place (WentBack seen found) = (slice_get before place ≡ Some seen) × (found < seen)
@@ -81,13 +81,13 @@ IsPublishFault hub place item before fault = IsUnmet hub before place fault
 
 -- ---- standing
 
--- the channel at this place has no rendition of this index
+-- the channel at `place` has no rendition at index `rendition`
 pub record HasNone (hub : List Configuration) (place rendition : ℕ) : Type 0 where
   pub settings : Configuration
   pub channel : slice_get hub place ≡ Some settings
   pub none : length settings.renditions ≤ rendition
 
--- where a rendition of the channel at this place stands
+-- where a rendition of the channel at `place` stands
 pub record IsPlace (hub : List Configuration) (place rendition : ℕ) (before after : List ℕ) (s : Standing) : Type 0 where
   pub settings : Configuration
   pub seen : ℕ
@@ -129,7 +129,7 @@ abbrev pub IsAskedOf : List Configuration → ℕ → WantValue → List ℕ →
 IsAskedOf hub place want before after (Now mark) = IsAnsweredNow hub place want before after mark
 IsAskedOf hub place want before after (Held claim) = IsClaimed hub place want before after claim
 
--- a request was refused by the room of the channel at this place, or the reading before it was, which is one that the clock shows
+-- the room of the channel at `place` refused a request, or the reading before it, which is one that the clock shows
 pub record IsAskedInVain (shows : ℕ → Type 0) (hub : List Configuration) (place : ℕ) (fault : HubFault) : Type 0 where
   pub settings : Configuration
   pub channel : slice_get hub place ≡ Some settings
@@ -151,7 +151,7 @@ pub record IsReplied (hub : List Configuration) (claim : ClaimValue) (before aft
   pub decided : IsDecided settings claim.entry mark.value
   pub passed : after ≡ noted_reply before claim.channel mark.value
 
--- how waiting with a limit ends: with the reply, or with the same claim again, and nothing seen
+-- the result of waiting with a limit: the reply, or the same claim again, with nothing seen
 abbrev pub IsWaited : List Configuration → ClaimValue → List ℕ → List ℕ → Waited → Type 0
 IsWaited hub claim before after (waited.Reply mark) = IsReplied hub claim before after mark
 IsWaited hub claim before after (waited.Still back) = (back ≡ claim) × (after ≡ before)
@@ -167,14 +167,14 @@ abbrev pub IsTickFault : List Configuration → ℕ → HubFault → Type 0
 IsTickFault hub ms (Room place (room.Clock fault)) = (place < length hub) × IsReadingRefused ms fault
 IsTickFault hub ms other = ⊥
 
--- it names a place from the first on
+-- it names a place that isn't below `first`
 abbrev pub IsFrom : ℕ → HubFault → Type 0
 IsFrom first (Room place fault) = first ≤ place
 IsFrom first other = ⊥
 
 -- ---- rotate
 
--- the record of the channel at this place is handed out
+-- the record of the channel at `place` is handed out
 pub record IsRotated (hub : List Configuration) (place : ℕ) (chunk : ChunkValue) : Type 0 where
   pub settings : Configuration
   pub channel : slice_get hub place ≡ Some settings
@@ -200,7 +200,7 @@ abbrev pub AreTotals : List Configuration → List Total → Type 0
 AreTotals hub totals = (place : ℕ) (settings : Configuration) (total : Total) → slice_get hub place ≡ Some settings → slice_get totals place ≡ Some total
     → IsTotal place settings total
 
--- where the passes that were given didn't all come back, there are fewer than a hub gives
+-- if not all passes that were given came back, there are fewer than a hub gives at most
 abbrev pub IsFinishFault : ℕ → HubFault → Type 0
 IsFinishFault passes Short = passes < 65536
 IsFinishFault passes Memory = ⊤

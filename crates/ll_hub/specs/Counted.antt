@@ -5,13 +5,13 @@ use Rattle.ll_item.specs.declared.item.Item.{Item}
 use Rattle.ll_record.specs.Chunk.{ChunkValue, IsChunk, IsFaithful}
 use Rattle.ll_record.specs.Recording.{IsRecorded, Recording}
 use Rattle.ll_record.specs.Taken.{TakenChunk, Takes}
-use Rattle.ll_locked.specs.Section.{IsAskFaultBy, IsPublishFaultBy, IsUnmetBy}
-use Rattle.ll_locked.specs.Told.{IsAskRefused, IsHandedOut}
-use Rattle.ll_locked.specs.declared.fault.HubFault.{HubFault}
-use Rattle.ll_locked.specs.declared.fault.HubFault.TheVariants.{Room, Short, Memory}
+use Rattle.ll_hub_channel.specs.Section.{IsAskFaultBy, IsPublishFaultBy, IsUnmetBy}
+use Rattle.ll_hub_channel.specs.Told.{IsAskRefused, IsHandedOut}
+use Rattle.ll_hub_channel.specs.declared.fault.HubFault.{HubFault}
+use Rattle.ll_hub_channel.specs.declared.fault.HubFault.TheVariants.{Room, Short, Memory}
 use Rattle.ll_verdict.specs.Events.{Event}
 
--- the channel isn't the one that the caller has met, or as much was counted as is counted
+-- the channel isn't the one that the caller knows, or the limit of what is counted is reached
 abbrev pub IsUncountedBy : Recording → ℕ → Configuration → ℕ → HubFault → Type 0
 IsUncountedBy r place c seen Short = ⊤
 IsUncountedBy r place c seen fault = IsUnmetBy r place c seen fault
@@ -27,7 +27,7 @@ IsUnaskedBy shows r place c seen (Room other fault) = IsAskRefused shows place c
 IsUnaskedBy shows r place c seen Memory = ⊤
 IsUnaskedBy shows r place c seen fault = IsUncountedBy r place c seen fault
 
--- what it leaves: a reading is recorded only if the room was asked
+-- what the channel is after a refused request: a reading is recorded only if the room was asked
 abbrev pub IsLeftBy : (ℕ → Type 0) → Recording → Recording → ℕ → HubFault → Type 0
 IsLeftBy shows old new place (Room other fault) = IsAskFaultBy shows old new place (Room other fault)
 IsLeftBy shows old new place fault = new ≡ old

@@ -11,7 +11,7 @@ pub record PassValue : Type 0 where
   -- how many requests the caller has made
   pub asks : ℕ
 
--- one that has seen and counted nothing, of so many channels
+-- a pass for `channels` channels that has seen and counted nothing
 abbrev pub new_pass : ℕ → PassValue
 new_pass channels = record { seen = replicate channels 0; publishes = 0; asks = 0 }
 
@@ -19,11 +19,11 @@ abbrev pub noted_by : Option ℕ → List ℕ → ℕ → ℕ → List ℕ
 noted_by None seen channel count = seen
 noted_by (Some before) seen channel count = slice_set seen channel (max before count)
 
--- the caller has seen so many items of this channel too
+-- the caller has seen `count` items of this channel too
 abbrev pub noted : List ℕ → ℕ → ℕ → List ℕ
 noted seen channel count = noted_by (slice_get seen channel) seen channel count
 
--- a text and media tell how many items there were; no other reply does
+-- a text and media say how many items there were; no other reply does
 abbrev pub noted_reply : List ℕ → ℕ → Reply → List ℕ
 noted_reply seen channel (Text page) = noted seen channel page.seen.count
 noted_reply seen channel (Media piece) = noted seen channel piece.number

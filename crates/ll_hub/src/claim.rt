@@ -1,10 +1,11 @@
+//! The claim to the reply of a held request.
 ghost use Rattle.std.specs.Prelude.{◌≡◌};
 
 use ll_verdict::Entry;
 use std::marker::Model;
 
-/// What stands for a request that a hub holds: who has it is owed the reply. It can't be made twice, nor let go: it is spent where the
-/// reply is waited for, or the request is closed.
+/// The claim to the reply of a request that a hub holds. It can't be copied or dropped: it is spent when the reply is waited for, or when
+/// the request is closed.
 pub struct Claim {
     channel: usize,
     entry: Entry,
@@ -18,7 +19,7 @@ impl Model for Claim {
     ghost view = { λ c. record { channel = c.channel; entry = c.entry } };
 }
 
-/// None may be let go, since requests are numbered from 1: a leak is a failed proof.
+/// None may be dropped, because requests are numbered from 1: a leak is a failed proof.
 impl Drop for Claim {
     fn drop(self)
         requires { self.entry.ticket ≡ 0 }
@@ -31,28 +32,28 @@ impl Drop for Claim {
 }
 
 impl Claim {
-    /// What stands for this request of the channel at this place.
+    /// Returns the claim to the reply of `entry`, a request of the channel at place `channel`.
     pub(crate) fn new(channel: usize, entry: Entry) -> Claim
         ensures { result ≡ record { channel = channel; entry = entry } }
     {
         Claim { channel, entry }
     }
 
-    /// The place of its channel.
+    /// Returns the place of its channel.
     pub fn channel(&self) -> usize
         ensures { result ≡ self.now.channel }
     {
         self.channel
     }
 
-    /// The number of the request in its channel, from 1.
+    /// Returns the number of the request in its channel, from 1.
     pub fn ticket(&self) -> u64
         ensures { result ≡ self.now.entry.ticket }
     {
         self.entry.ticket
     }
 
-    /// Spends it, and gives the request.
+    /// Spends the claim, and returns the request.
     pub(crate) fn spend(self) -> Entry
         ensures { result ≡ self.entry }
     {

@@ -2,9 +2,9 @@
 ghost use Rattle.std.specs.Prelude.{◌≡◌, ◌+◌, ◌<◌, ◌≤◌, ◌++◌, ◌∷◌, [], List, IfErr, IfOk, IsTrue, MatchBool, MatchOption, OnErr, OnOk, filter, length};
 ghost use Rattle.ll_verdict.specs.Waiting as waiting;
 ghost use Rattle.ll_hub.specs.Counted.{IsHandedOver, IsLeftBy, IsUnaskedBy, IsUncountedBy, IsUnpublishedBy};
-ghost use Rattle.ll_locked.specs.Ledgers.{blank, with_ask, with_publish};
-ghost use Rattle.ll_locked.specs.Section as spec;
-ghost use Rattle.ll_locked.specs.Told.{IsAccepted, IsHandedOut, IsReadingRefused, IsStanding, IsTotal, IsTotalOf};
+ghost use Rattle.ll_hub_channel.specs.Ledgers.{blank, with_ask, with_publish};
+ghost use Rattle.ll_hub_channel.specs.Section as spec;
+ghost use Rattle.ll_hub_channel.specs.Told.{IsAccepted, IsHandedOut, IsReadingRefused, IsStanding, IsTotal, IsTotalOf};
 ghost use Rattle.ll_record.specs.Chunk.{IsChunk, IsFaithful, emptied};
 ghost use Rattle.ll_record.specs.Recording.{GoesOn, IsRecorded};
 ghost use Rattle.ll_room.specs.RoomValue.{room_value};
@@ -14,11 +14,11 @@ ghost use Rattle.ll_verdict.specs.Standing as stands;
 ghost use Rattle.ll_verdict.specs.State.{state_of};
 
 use ll_directive::Want;
-use ll_item::{Item, Settings};
-use ll_locked::{
+use ll_hub_channel::{
     Asks, AtOnce, Channel, ChannelCounts, Clock, HubFault, Known, Ledgers, PassCounts, Publishes,
     Tally, Total, Tried,
 };
+use ll_item::{Item, Settings};
 use ll_record::{Chunk, Sink};
 use ll_room::Stamped;
 use ll_verdict::{ClockFault, Entry, Standing};
@@ -27,7 +27,7 @@ use std::marker::Model;
 use std::sync::ledger::{Ledger, Share};
 use std::sync::{Mutex, Wait};
 
-/// A channel whose accepted items and whose requests are counted.
+/// A channel with its counts of accepted items and of requests.
 pub(crate) struct Counted<L: Ledgers> {
     channel: Channel,
     counts: ChannelCounts<L>,
@@ -45,7 +45,7 @@ impl<L: Ledgers> Model for Counted<L> {
 }
 
 impl<L: Ledgers> Counted<L> {
-    /// The channel at this place, to which nothing has happened.
+    /// Returns the channel at place `place`, to which nothing has happened.
     pub(crate) fn new(
         alloc: Global,
         place: usize,
@@ -62,21 +62,21 @@ impl<L: Ledgers> Counted<L> {
         })
     }
 
-    /// How many replies are there that weren't collected.
+    /// Returns how many replies are there that weren't collected.
     pub(crate) fn ready(&self) -> usize
         ensures { result ≡ length (filter waiting.is_ready self.now.room.slots) }
     {
         self.channel.ready()
     }
 
-    /// Whether this is the channel that the caller knows, and has what the caller has seen.
+    /// Returns whether this is the channel that the caller knows, and has what the caller has seen.
     pub(crate) fn is_met(&self, known: Known<'_>) -> bool
         ensures { IsTrue result → spec.IsMet self.now known.entry.place known.entry.settings.now known.entry.seen }
     {
         self.channel.meet(known).is_ok()
     }
 
-    /// Returns where the rendition of this index stands, or `None` if the channel has none of that index. Nothing is counted.
+    /// Returns where the rendition at index `rendition` stands; `None` if the channel has no such rendition. Nothing is counted.
     pub(crate) fn standing(
         &self,
         known: Known<'_>,
@@ -93,7 +93,7 @@ impl<L: Ledgers> Counted<L> {
         }
     }
 
-    /// Counts an item, and publishes it. An item that is refused isn't counted.
+    /// Counts `item`, and publishes it. An item that is refused isn't counted.
     pub(crate) fn publish<R: Wait>(
         &mut self,
         rt: &R,
@@ -124,7 +124,7 @@ impl<L: Ledgers> Counted<L> {
         told
     }
 
-    /// Counts a request, reads the clock and makes the request. A request that is refused isn't counted.
+    /// Counts a request, reads the clock and makes the request `want`. A request that is refused isn't counted.
     pub(crate) fn ask<C: Clock, R: Wait>(
         &mut self,
         rt: &R,
@@ -154,7 +154,7 @@ impl<L: Ledgers> Counted<L> {
         told
     }
 
-    /// Hands out the reply to a held request, where it is there.
+    /// Hands out the reply to the held request `entry`, if it is there.
     pub(crate) fn collect(&mut self, known: Known<'_>, entry: Entry) -> Tried
         ensures tried { spec.IsTriedBy known.entry.place known.entry.settings.now entry result }
         ensures counts { spec.IsAsCounted self.old self.new }
@@ -164,7 +164,7 @@ impl<L: Ledgers> Counted<L> {
         self.channel.collect(known, entry)
     }
 
-    /// Gives a held request up: it gets no reply. Answers whether it was held here.
+    /// Closes the held request `entry`: it gets no reply. Returns whether it was held here.
     pub(crate) fn close(&mut self, known: Known<'_>, entry: Entry) -> bool
         ensures counts { spec.IsAsCounted self.old self.new }
         ensures closed { MatchBool result (spec.IsClosed self.old self.new known.entry.place known.entry.settings.now entry)
@@ -174,7 +174,7 @@ impl<L: Ledgers> Counted<L> {
         self.channel.close(known, entry)
     }
 
-    /// Tells the channel what its clock shows, in milliseconds.
+    /// Passes a reading of the clock to the channel, in milliseconds.
     pub(crate) fn tick(&mut self, ms: u64) -> Result<(), ClockFault>
         ensures counts { spec.IsAsCounted self.old self.new }
         ensures told { (events : List Event) → IsRecorded self.old events → OnOk result (IsRecorded self.new (events ++ Clock ms ∷ [])) }
@@ -200,7 +200,7 @@ impl<L: Ledgers> Counted<L> {
         self.channel.rotate(known)
     }
 
-    /// Hands the record of the channel to a sink, and begins another.
+    /// Hands the record of the channel to `sink`, and begins another.
     pub(crate) fn rotate_to<K: Sink>(
         &mut self,
         known: Known<'_>,
@@ -222,7 +222,7 @@ impl<L: Ledgers> Counted<L> {
         }
     }
 
-    /// Closes what is held, tells what the channel has come to, and gives its shares.
+    /// Closes all held requests, and returns the channel's total and its shares.
     pub(crate) fn finish(self) -> (Total, ChannelCounts<L>)
         ensures shares { result.1 ≡ record { parts = 1; publishes = result.0.publishes; asks = result.0.asks } }
         ensures counts { (result.0.publishes ≡ self.room.count) × (result.0.asks ≡ self.room.asks) × (result.0.held ≡ length self.room.slots) }
@@ -234,7 +234,7 @@ impl<L: Ledgers> Counted<L> {
     }
 }
 
-/// Meets the channel, and counts one for it and for the pass. Where it fails, nothing is counted.
+/// Checks that `channel` is `known`, and counts one for it and for the pass. If it fails, nothing is counted.
 fn count_met<C: Ledger, P: Ledger, R: Wait>(
     rt: &R,
     channel: &Channel,
@@ -258,7 +258,7 @@ fn count_met<C: Ledger, P: Ledger, R: Wait>(
     }
 }
 
-/// Takes back what was counted for a channel and for a pass.
+/// Takes back one count of a channel and of a pass.
 fn take_back<C: Ledger, P: Ledger, R: Wait>(
     rt: &R,
     tally: &Mutex<Tally<C, P>>,

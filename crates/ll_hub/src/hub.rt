@@ -3,18 +3,18 @@ ghost use Rattle.std.specs.Prelude.{◌≡◌, ◌+◌, ◌≤◌, [], None, Som
 ghost use Rattle.ll_item.specs.Channels.{channel_of_name};
 ghost use Rattle.ll_hub.specs.Calls as calls;
 ghost use Rattle.ll_hub.specs.Passes.{new_pass};
-ghost use Rattle.ll_locked.specs.Ledgers.{IsRest, all_parts, blank};
+ghost use Rattle.ll_hub_channel.specs.Ledgers.{IsRest, all_parts, blank};
 
 use crate::claim::Claim;
 use crate::locks::ChannelLocks;
 use crate::pass::Pass;
 use crate::totals::Totals;
 use ll_directive::Want;
-use ll_item::{Item, Settings};
-use ll_locked::{
+use ll_hub_channel::{
     Asks, AtOnce, Blanks, ChannelCounts, Clock, HubFault, Ledgers, Opened, PassCounts, Publishes,
     RoomFault, Seats, Total,
 };
+use ll_item::{Item, Settings};
 use ll_record::{Chunk, Sink};
 use ll_room::Stamped;
 use ll_verdict::{Reply, Standing};
@@ -23,27 +23,27 @@ use std::marker::Model;
 use std::sync::{Mutex, Wait};
 use std::time::{self, Duration};
 
-/// What a request gets when it is made.
+/// The result of a request.
 pub enum HubAsked {
     /// Its reply.
     Now(Stamped<Reply>),
-    /// It is held: its reply is waited for.
+    /// The claim to its reply, because it is held.
     Held(Claim),
 }
 
-/// How waiting with a limit ends.
+/// The result of waiting with a limit.
 pub enum Waited {
-    /// The reply is there.
+    /// The reply.
     Reply(Stamped<Reply>),
-    /// The request is still held, and here is its claim again.
+    /// The claim again, because the request is still held.
     Still(Claim),
 }
 
-/// Channels under a lock each: a call on one channel waits for one on another no longer than it takes to count. It must be spent by
-/// [`Hub::finish`].
+/// Channels, each under its own lock: a call on one channel waits for a call on another no longer than it takes to count. It must be spent
+/// by [`Hub::finish`].
 ///
-/// Each accepted item and each request is counted twice: by its channel, and by the pass that it was made with. So the totals of the
-/// channels are at the end those of the passes.
+/// Each accepted item and each request is counted twice: by its channel, and by the pass with which it was made. So in the end the totals
+/// of the channels are those of the passes.
 pub struct Hub<L: Ledgers> {
     locks: ChannelLocks<L>,
     seats: Mutex<Seats<L>>,
@@ -62,7 +62,7 @@ impl<L: Ledgers> Model for Hub<L> {
     ghost invariant = { λ h. length h.locks ≡ L.channels };
 }
 
-/// Only one without channels may be let go: a leak is a failed proof.
+/// Only a hub without channels may be dropped: a leak is a failed proof.
 impl<L: Ledgers> Drop for Hub<L> {
     ghost use Rattle.std.specs.Prelude.{◌≡◌, []};
 
@@ -79,7 +79,7 @@ impl<L: Ledgers> Drop for Hub<L> {
 }
 
 impl<L: Ledgers> Hub<L> {
-    /// A hub of these channels, to which nothing has happened. Of channels of one name the first is found by it.
+    /// Returns a hub of `channels`, to which nothing has happened. Of channels with one name, the first is found by it.
     pub fn new(alloc: Global, channels: Vec<Settings>, blanks: Blanks) -> Result<Hub<L>, AllocError>
         requires some { 1 ≤ length channels.items }
         requires most { length channels.items ≤ 1024 }
@@ -101,7 +101,7 @@ impl<L: Ledgers> Hub<L> {
         })
     }
 
-    /// The channel of this name, and its settings.
+    /// Returns the place of the channel named `name`, and its settings.
     pub fn find(&self, name: &str) -> Option<(usize, &Settings)>
         ensures { MatchOption result (channel_of_name self.now 0 name.now ≡ None)
             (λ f. channel_of_name self.now 0 name.now ≡ Some (f.0, f.1.now)) }
@@ -109,10 +109,10 @@ impl<L: Ledgers> Hub<L> {
         self.locks.find(name)
     }
 
-    /// A pass for one caller, who has seen nothing yet. It may be dropped; but [`Hub::finish`] tells totals only where it gets back
-    /// every pass that was given.
+    /// Returns a pass for one caller, who has seen nothing yet. It may be dropped; but [`Hub::finish`] returns totals only if every pass
+    /// that was given comes back.
     ///
-    /// 1. No memory is found: Memory.
+    /// 1. Out of memory: Memory.
     /// 2. 65,536 passes were given: Short.
     pub fn seat<R: Wait>(&self, rt: &R) -> Result<Pass<L>, HubFault>
         ensures seated { IfOk result (λ p. p ≡ new_pass (length self.now)) }
@@ -127,8 +127,8 @@ impl<L: Ledgers> Hub<L> {
         }
     }
 
-    /// Publishes an item in the channel at this place, and answers how many the channel has accepted with it. The pass counts it. The
-    /// first of these that applies refuses it.
+    /// Publishes `item` in the channel at place `channel`, and returns how many items the channel has accepted with it. The pass counts it.
+    /// The first of these that applies refuses it:
     ///
     /// 1. There is no channel at that place: UnknownChannel.
     /// 2. The pass is another hub's: Stranger, or WentBack.
@@ -155,8 +155,8 @@ impl<L: Ledgers> Hub<L> {
         Ok(count)
     }
 
-    /// Returns where the rendition of this index stands in the channel at this place, or `None` if the channel has none of that index. It is
-    /// no event, and counts for nothing. The first of these that applies refuses it.
+    /// Returns where the rendition at index `rendition` of the channel at place `channel` stands; `None` if the channel has no such
+    /// rendition. It is no event, and isn't counted. The first of these that applies refuses it:
     ///
     /// 1. There is no channel at that place: UnknownChannel.
     /// 2. The pass is another hub's: Stranger, or WentBack.
@@ -180,13 +180,13 @@ impl<L: Ledgers> Hub<L> {
         Ok(standing)
     }
 
-    /// Makes a request of the channel at this place, after a reading of the clock that is made while the channel is locked. Its reply
-    /// comes at once, or it is held. The pass counts it. The first of these that applies refuses it.
+    /// Makes the request `want` of the channel at place `channel`, after a reading of the clock that is made while the channel is locked.
+    /// It is answered at once, or it is held. The pass counts it. The first of these that applies refuses it:
     ///
     /// 1. There is no channel at that place: UnknownChannel.
     /// 2. The pass is another hub's: Stranger, or WentBack.
     /// 3. 2^60 requests of the hub's channels were counted: Short.
-    /// 4. No memory is found: Memory.
+    /// 4. Out of memory: Memory.
     /// 5. The channel's room refuses the reading of the clock, or the request.
     pub fn ask<C: Clock, R: Wait>(
         &self,
@@ -215,7 +215,7 @@ impl<L: Ledgers> Hub<L> {
         }
     }
 
-    /// Waits for the reply to a held request. The claim is spent, also where the hub doesn't hold the request.
+    /// Waits for the reply to a held request. The claim is spent, even if the hub doesn't hold the request.
     pub fn wait<R: Wait>(
         &self,
         rt: &R,
@@ -235,9 +235,9 @@ impl<L: Ledgers> Hub<L> {
         Ok(reply)
     }
 
-    /// Waits for the reply to a held request, no longer than about `limit`. It takes the channel's lock when it is called, and once more
-    /// after each wake-up. Where the clock can't be read, the limit counts as over. The claim is spent, also where the hub doesn't hold
-    /// the request, unless it comes back.
+    /// Waits for the reply to a held request, no longer than about `limit`. Takes the channel's lock at first, and once more after each
+    /// wake-up. If the clock can't be read, the limit counts as over. The claim is spent, even if the hub doesn't hold the request, unless
+    /// it is returned.
     pub fn wait_within<R: Wait + time::Clock>(
         &self,
         rt: &R,
@@ -262,7 +262,7 @@ impl<L: Ledgers> Hub<L> {
         }
     }
 
-    /// Gives a held request up: it gets no reply. The claim is spent; answers whether the hub held the request.
+    /// Closes a held request: it gets no reply. The claim is spent; returns whether the hub held the request.
     pub fn close<R: Wait>(&self, rt: &R, claim: Claim) -> bool
         ensures { slice_get self.now claim.channel ≡ None → result ≡ false }
     {
@@ -274,15 +274,14 @@ impl<L: Ledgers> Hub<L> {
         }
     }
 
-    /// Tells each channel, in their order, what the clock shows, in milliseconds, up to the first that refuses the reading.
+    /// Passes a reading of the clock, in milliseconds, to each channel in order, up to the first that refuses it.
     pub fn tick<R: Wait>(&self, rt: &R, ms: u64) -> Result<(), HubFault>
         ensures { IfErr result (λ f. calls.IsTickFault self.now ms f) }
     {
         self.tick_from(rt, 0, ms)
     }
 
-    /// Tells each channel from this place on, in their order, what the clock shows, in milliseconds, up to the first that refuses the
-    /// reading.
+    /// Passes a reading of the clock, in milliseconds, to each channel from place `first` on, in order, up to the first that refuses it.
     pub fn tick_from<R: Wait>(&self, rt: &R, first: usize, ms: u64) -> Result<(), HubFault>
         ensures refused { IfErr result (λ f. calls.IsTickFault self.now ms f) }
         ensures from { IfErr result (λ f. calls.IsFrom first f) }
@@ -298,11 +297,11 @@ impl<L: Ledgers> Hub<L> {
         Ok(())
     }
 
-    /// Hands out the record of the channel at this place, and begins another. No reply changes by it. The first of these that applies
-    /// refuses it.
+    /// Hands out the record of the channel at place `channel`, and begins another. No reply changes by it. The first of these that applies
+    /// refuses it:
     ///
     /// 1. There is no channel at that place: UnknownChannel.
-    /// 2. No memory is found: Memory.
+    /// 2. Out of memory: Memory.
     pub fn rotate<R: Wait>(&self, rt: &R, channel: usize) -> Result<Chunk, HubFault>
         ensures handed_out { IfOk result (λ k. calls.IsRotated self.now channel k) }
         ensures refused { IfErr result (λ f. calls.IsRotateFault self.now channel f) }
@@ -311,8 +310,8 @@ impl<L: Ledgers> Hub<L> {
         channel_lock.lock(rt).rotate(known)
     }
 
-    /// Hands the record of the channel at this place to a sink, once, as [`Hub::rotate`] hands it out. The channel stays locked until the sink
-    /// has taken it.
+    /// Hands the record of the channel at place `channel` to `sink`, once, as [`Hub::rotate`] hands it out. The channel stays locked until
+    /// the sink has taken it.
     pub fn rotate_to<K: Sink, R: Wait>(
         &self,
         rt: &R,
@@ -332,15 +331,15 @@ impl<L: Ledgers> Hub<L> {
         handed
     }
 
-    /// Whether a sink is taking the record of the channel at this place. A call on that channel waits until it has.
+    /// Returns whether a sink is taking the record of the channel at place `channel`. A call on that channel waits until it has.
     pub fn is_handing_out(&self, channel: usize) -> bool {
         self.locks.is_handing_out(channel)
     }
 
-    /// Closes what is held, and spends the hub and the passes. The channels have accepted as many items, and were asked as often, as
-    /// the passes have counted. Where it fails, hub and passes are spent too.
+    /// Closes all held requests, and spends the hub and the passes, even if it fails. The channels have accepted as many items, and were
+    /// asked as often, as the passes have counted. The first of these that applies refuses it:
     ///
-    /// 1. No memory is found: Memory.
+    /// 1. Out of memory: Memory.
     /// 2. Fewer passes come back than were given; there are never more: Short.
     pub fn finish(self, passes: Vec<Pass<L>>) -> Result<Totals, HubFault>
         ensures totals { IfOk result (λ t. calls.AreTotals self t.channels.items) }
@@ -357,8 +356,8 @@ impl<L: Ledgers> Hub<L> {
         Ok(Totals { channels })
     }
 
-    /// Closes what is held, tells what each channel has come to, and spends the hub and the passes. Where fewer passes come back than were
-    /// given, it fails, and hub and passes are spent too: Short.
+    /// Closes all held requests, adds each channel's total to `channels`, and spends the hub and the passes, even if it fails. If fewer
+    /// passes come back than were given, it fails: Short.
     fn settle(self, passes: Vec<Pass<L>>, channels: &mut Vec<Total>) -> Result<(), HubFault>
         requires none { channels.old.items ≡ [] }
         requires room { length self ≤ vec_capacity channels.old }
@@ -385,7 +384,7 @@ impl<L: Ledgers> Hub<L> {
         if returned != given {
             return Err(HubFault::Short);
         }
-        // never so: a channel stays where it was put
+        // Never so: a channel stays where it was put.
         if !at_home {
             return Err(HubFault::Memory);
         }
@@ -396,7 +395,7 @@ impl<L: Ledgers> Hub<L> {
         Ok(())
     }
 
-    /// Closes what is held, and spends the hub.
+    /// Closes all held requests, and spends the hub.
     fn end(self) {
         let Hub {
             locks,
@@ -408,7 +407,7 @@ impl<L: Ledgers> Hub<L> {
     }
 }
 
-/// These channels, to which nothing has happened, under a lock each. Each gets its shares from the rest.
+/// Returns `channels`, to which nothing has happened, each under its own lock and with its shares of `rest`.
 fn lock_each<L: Ledgers>(
     alloc: Global,
     channels: Vec<Settings>,
@@ -429,7 +428,7 @@ fn lock_each<L: Ledgers>(
     Ok(locks)
 }
 
-/// The shares of all these passes, with the rest.
+/// Returns the shares of all `passes`, merged into `rest`.
 fn gather<L: Ledgers>(rest: PassCounts<L>, passes: Vec<Pass<L>>) -> PassCounts<L>
     requires { rest.parts ≤ 65537 }
     ensures parts { result.parts ≡ rest.parts + length passes.items }

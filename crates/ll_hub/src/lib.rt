@@ -1,4 +1,4 @@
-//! Many channels under a lock each, and what their callers are told, whatever other threads call between.
+//! Many channels, each under its own lock, and what their callers get, whatever other threads call between.
 #![tactic(auto)]
 
 mod claim;
@@ -10,7 +10,7 @@ mod totals;
 
 pub use claim::Claim;
 pub use hub::{Hub, HubAsked, Waited};
-pub use ll_locked::{Blanks, Clock, HubFault, Ledgers, Named, RoomFault, Total};
+pub use ll_hub_channel::{Blanks, Clock, HubFault, Ledgers, Named, RoomFault, Total};
 pub use ll_record::Sink;
 pub use pass::Pass;
 pub use totals::Totals;

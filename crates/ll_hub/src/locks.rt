@@ -1,18 +1,18 @@
-//! The channels of a hub, under a lock each.
+//! The channels of a hub, each under its own lock.
 ghost use Rattle.std.specs.Prelude.{◌≡◌, ◌+◌, ◌<◌, ◌≤◌, ◌++◌, ◌∷◌, [], None, Some, IfErr, IfOk, IfSome, IsTrue, MatchOption, OnErr, OnOk, false, length, map, slice_get, sum, vec_capacity, vec_len};
 ghost use Rattle.ll_item.specs.Channels.{channel_of_name};
 ghost use Rattle.ll_hub.specs.Calls as calls;
-ghost use Rattle.ll_locked.specs.Ledgers.{blank};
+ghost use Rattle.ll_hub_channel.specs.Ledgers.{blank};
 ghost use Rattle.ll_item.specs.Settings.{Configuration};
-ghost use Rattle.ll_locked.specs.Section.{IsAt};
-ghost use Rattle.ll_locked.specs.Told.{IsDecided, IsReadingRefused, IsTotal};
+ghost use Rattle.ll_hub_channel.specs.Section.{IsAt};
+ghost use Rattle.ll_hub_channel.specs.Told.{IsDecided, IsReadingRefused, IsTotal};
 ghost use Rattle.ll_room.specs.RoomValue.{room_value};
 ghost use Rattle.ll_room.specs.declared.stamped.Stamp.TheVariants as stamp;
 ghost use Rattle.ll_verdict.specs.State.{state_of};
 
 use crate::counted::Counted;
+use ll_hub_channel::{ChannelCounts, HubFault, Known, Ledgers, Total, Tried};
 use ll_item::{Channels, Settings};
-use ll_locked::{ChannelCounts, HubFault, Known, Ledgers, Total, Tried};
 use ll_room::Stamped;
 use ll_verdict::{ClockFault, Entry, Reply};
 use std::alloc::{AllocError, Global};
@@ -21,24 +21,24 @@ use std::sync::atomic::{AtomicBool, AtomicU64, Ordering};
 use std::sync::{Condvar, Mutex, MutexGuard, Wait};
 use std::time::{Clock, Duration, Instant};
 
-/// How often a lock that is held is tried before its caller sleeps until it is free: for longer than some sections take, unless the system has
-/// stopped who is in one. A section is much shorter than falling asleep and being woken.
+/// How often a held lock is tried before its caller sleeps until it is free: for longer than some sections take, unless the system has
+/// stopped the thread inside. A section is much shorter than falling asleep and being woken.
 const TRIES: usize = 128;
 
-/// How many of those who wait are woken where replies come. Each of them wakes another, so few at a time ask for the lock.
+/// The most waiters that are woken when replies come. Each of them wakes another, so few at a time ask for the lock.
 const WOKEN: usize = 64;
 
-/// One channel's lock, and what wakes those who wait for replies.
+/// One channel's lock, and what wakes those that wait for replies.
 pub(crate) struct ChannelLock<L: Ledgers> {
     state: Mutex<Counted<L>>,
     changed: Condvar,
-    /// How often replies came.
+    /// The number of times that replies came.
     releases: AtomicU64,
     /// Whether the record is being handed out: the lock may be held for long.
     handing_out: AtomicBool,
 }
 
-/// Channels under a lock each, found by their names and their places.
+/// Channels, each under its own lock, found by name and by place.
 pub(crate) struct ChannelLocks<L: Ledgers> {
     alloc: Global,
     channels: Channels,
@@ -56,7 +56,7 @@ impl<L: Ledgers> Model for ChannelLocks<L> {
     ghost invariant = { λ s. vec_len s.locks ≡ length s.channels };
 }
 
-/// Only none may be let go: a leak is a failed proof.
+/// Only an empty list may be dropped: a leak is a failed proof.
 impl<L: Ledgers> Drop for ChannelLocks<L> {
     ghost use Rattle.std.specs.Prelude.{◌≡◌, []};
 
@@ -73,7 +73,7 @@ impl<L: Ledgers> Drop for ChannelLocks<L> {
 }
 
 impl<L: Ledgers> ChannelLocks<L> {
-    /// No channels.
+    /// Returns an empty list.
     pub(crate) fn new(alloc: Global) -> ChannelLocks<L>
         ensures { result ≡ [] }
     {
@@ -84,19 +84,19 @@ impl<L: Ledgers> ChannelLocks<L> {
         }
     }
 
-    /// What they are kept in.
+    /// Returns the allocator of the list.
     pub(crate) fn alloc(&self) -> Global {
         self.alloc
     }
 
-    /// How many there are.
+    /// Returns the number of channels.
     pub(crate) fn len(&self) -> usize
         ensures { result ≡ length self.now }
     {
         self.locks.len()
     }
 
-    /// Adds a channel after the others.
+    /// Adds a channel with `settings` after the others.
     pub(crate) fn add(
         &mut self,
         settings: Settings,
@@ -118,7 +118,7 @@ impl<L: Ledgers> ChannelLocks<L> {
         Ok(())
     }
 
-    /// The channel of this name, and its settings.
+    /// Returns the place of the channel named `name`, and its settings.
     pub(crate) fn find(&self, name: &str) -> Option<(usize, &Settings)>
         ensures { MatchOption result (channel_of_name self.now 0 name.now ≡ None)
             (λ f. channel_of_name self.now 0 name.now ≡ Some (f.0, f.1.now)) }
@@ -126,7 +126,7 @@ impl<L: Ledgers> ChannelLocks<L> {
         self.channels.find(name)
     }
 
-    /// The channel at this place as the caller knows it, with its lock.
+    /// Returns the lock of the channel at place `channel`, and the channel as a caller knows it who has seen `seen` of its items.
     pub(crate) fn reach(
         &self,
         channel: usize,
@@ -154,7 +154,7 @@ impl<L: Ledgers> ChannelLocks<L> {
         ))
     }
 
-    /// Whether the record of the channel at this place is being handed out.
+    /// Returns whether the record of the channel at place `channel` is being handed out.
     pub(crate) fn is_handing_out(&self, channel: usize) -> bool {
         match self.locks.get(channel) {
             Some(channel_lock) => channel_lock.is_handing_out(),
@@ -162,7 +162,7 @@ impl<L: Ledgers> ChannelLocks<L> {
         }
     }
 
-    /// Tells the channel at this place what the clock shows, in milliseconds.
+    /// Passes a reading of the clock, in milliseconds, to the channel at place `channel`.
     pub(crate) fn tick<R: Wait>(&self, rt: &R, channel: usize, ms: u64) -> Result<(), ClockFault>
         requires { channel < length self.now }
         ensures { IfErr result (λ f. IsReadingRefused ms f) }
@@ -170,8 +170,8 @@ impl<L: Ledgers> ChannelLocks<L> {
         self.locks[channel].tick(rt, ms)
     }
 
-    /// Closes what is held, tells what each channel has come to, and takes their shares in. It takes no memory. Answers whether each
-    /// channel was found at its place, as it always is: no proof sees what lies under a lock, so this is looked at.
+    /// Closes all held requests, adds each channel's total to `found`, and merges their shares into `all`. It takes no memory. Returns
+    /// whether each channel was found at its place, as it always is: no proof sees what lies under a lock, so this is checked.
     pub(crate) fn finish(self, found: &mut Vec<Total>, all: &mut ChannelCounts<L>) -> bool
         requires none { found.old.items ≡ [] }
         requires room { length self ≤ vec_capacity found.old }
@@ -197,7 +197,7 @@ impl<L: Ledgers> ChannelLocks<L> {
         at_home
     }
 
-    /// Closes what is held.
+    /// Closes all held requests.
     pub(crate) fn end(self) {
         let ChannelLocks {
             alloc: _,
@@ -231,17 +231,17 @@ impl<L: Ledgers> ChannelLock<L> {
         self.state.lock(rt)
     }
 
-    /// The record begins to be handed out, or has been.
+    /// Sets whether the record is being handed out.
     pub(crate) fn set_handing_out(&self, handing_out: bool) {
         self.handing_out.store(handing_out, Ordering::SeqCst);
     }
 
-    /// Whether the record is being handed out.
+    /// Returns whether the record is being handed out.
     fn is_handing_out(&self) -> bool {
         self.handing_out.load(Ordering::SeqCst)
     }
 
-    /// Lets the lock go. Where more replies are there than before, it wakes some of those who wait, and they the others.
+    /// Releases the lock. If more replies are there than `ready`, wakes some of those that wait, and they wake the others.
     pub(crate) fn leave(&self, state: MutexGuard<'_, Counted<L>>, ready: usize) {
         let more = state.ready().saturating_sub(ready);
         if more > 0 {
@@ -253,9 +253,9 @@ impl<L: Ledgers> ChannelLock<L> {
         }
     }
 
-    /// Whether another of those who wait is to be woken: as long as replies are there that weren't collected. Those who wait are woken in the
-    /// order in which they began to: who has woken another since replies last came, and is woken again, was so after all whose replies are
-    /// there, and wakes nobody more.
+    /// Returns whether a waiter that was woken is to wake another: if replies are there that weren't collected, and it has woken none since
+    /// replies last came. Waiters are woken in the order in which they began to wait, so one that is woken again comes after all whose
+    /// replies are there.
     fn wakes_another(&self, state: &Counted<L>, woken: &mut u64) -> bool {
         let releases = self.releases.load(Ordering::SeqCst);
         let wakes = *woken < releases && state.ready() > 0;
@@ -263,7 +263,7 @@ impl<L: Ledgers> ChannelLock<L> {
         wakes
     }
 
-    /// Lets the lock go, and wakes another of those who wait where one is to be woken, who then finds it free.
+    /// Releases the lock, and then wakes another waiter if `wakes`, so that it finds the lock free.
     fn unlock(&self, state: MutexGuard<'_, Counted<L>>, wakes: bool) {
         drop(state);
         if wakes {
@@ -271,7 +271,7 @@ impl<L: Ledgers> ChannelLock<L> {
         }
     }
 
-    /// Tells the channel what the clock shows, in milliseconds.
+    /// Passes a reading of the clock to the channel, in milliseconds.
     fn tick<R: Wait>(&self, rt: &R, ms: u64) -> Result<(), ClockFault>
         ensures { IfErr result (λ f. IsReadingRefused ms f) }
     {
@@ -282,7 +282,7 @@ impl<L: Ledgers> ChannelLock<L> {
         told
     }
 
-    /// Waits until the reply of a held request is there.
+    /// Waits for the reply to the held request `entry`.
     pub(crate) fn wait<R: Wait>(
         &self,
         rt: &R,
@@ -317,7 +317,7 @@ impl<L: Ledgers> ChannelLock<L> {
         unreachable!()
     }
 
-    /// Waits until the reply of a held request is there, or so much time has gone by: then there is none.
+    /// Waits for the reply to the held request `entry`; returns `None` once `limit` is over.
     pub(crate) fn wait_within<R: Wait + Clock>(
         &self,
         rt: &R,
@@ -357,7 +357,8 @@ impl<L: Ledgers> ChannelLock<L> {
         unreachable!()
     }
 
-    /// Closes what is held, tells what the channel has come to, and gives its shares. Notes where it isn't the channel of this place.
+    /// Closes all held requests, and returns the channel's total and its shares. Sets `at_home` to false if it isn't the channel at
+    /// `place`.
     fn finish(
         self,
         channels: &Channels,
@@ -379,7 +380,7 @@ impl<L: Ledgers> ChannelLock<L> {
         channel.finish()
     }
 
-    /// Closes what is held.
+    /// Closes all held requests.
     fn end(self) {
         let ChannelLock {
             state,
@@ -391,7 +392,7 @@ impl<L: Ledgers> ChannelLock<L> {
     }
 }
 
-/// A channel for the place after these locks, to which nothing has happened, and room for its lock.
+/// Returns a channel for the place after `locks`, to which nothing has happened, and reserves memory for its lock.
 fn new_channel<L: Ledgers>(
     alloc: Global,
     locks: &mut Vec<ChannelLock<L>>,
@@ -408,13 +409,13 @@ fn new_channel<L: Ledgers>(
     Counted::new(alloc, locks.len(), own, counts)
 }
 
-/// What is left of a limit that runs from `start`: nothing, where it is over or the clock can't be read.
+/// Returns what is left of `limit`, which runs from `start`; `None` if it is over, or if the clock can't be read.
 fn left<R: Clock>(rt: &R, start: Option<Instant>, limit: Duration) -> Option<Duration> {
     let left = limit.checked_sub(start?.elapsed(rt).ok()?)?;
     if left.is_zero() { None } else { Some(left) }
 }
 
-/// Whether this is the channel at this place.
+/// Returns whether `channel` is the one at `place`.
 fn is_at<L: Ledgers>(channel: &Counted<L>, channels: &Channels, place: usize) -> bool
     ensures { (settings : Configuration) → IsTrue result → slice_get channels.now place ≡ Some settings → IsAt channel.now place settings }
 {

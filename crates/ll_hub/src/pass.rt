@@ -1,13 +1,14 @@
+//! A caller's pass: what it has seen of each channel, and what it has counted.
 ghost use Rattle.std.specs.Prelude.{◌≡◌, slice_get};
-ghost use Rattle.ll_locked.specs.Ledgers.{blank};
+ghost use Rattle.ll_hub_channel.specs.Ledgers.{blank};
 ghost use Rattle.ll_hub.specs.Passes.{noted, noted_reply};
 
-use ll_locked::{Ledgers, PassCounts};
+use ll_hub_channel::{Ledgers, PassCounts};
 use ll_verdict::Reply;
 use std::marker::Model;
 
-/// What one caller of a hub has seen: of each channel, how many items it has accepted at least. No answer that a caller gets is older
-/// than what it has seen. It counts too what its caller has published and asked: the items that were accepted, and the requests that were made.
+/// What one caller of a hub has seen: how many items each channel has accepted at least. No answer that the caller gets is older. It also
+/// counts the caller's items that were accepted, and the requests that it made.
 #[derive(Drop)]
 pub struct Pass<L: Ledgers> {
     seen: Vec<u64>,
@@ -26,7 +27,7 @@ impl<L: Ledgers> Model for Pass<L> {
 }
 
 impl<L: Ledgers> Pass<L> {
-    /// One that has seen so many items of each channel, and has counted nothing.
+    /// Returns a pass that has seen `seen[i]` items of the channel at place `i`, and has counted nothing.
     pub(crate) fn new(seen: Vec<u64>, counts: PassCounts<L>) -> Pass<L>
         requires { counts ≡ blank 1 }
         ensures { result ≡ record { seen = seen.items; publishes = 0; asks = 0 } }
@@ -34,14 +35,14 @@ impl<L: Ledgers> Pass<L> {
         Pass { seen, counts }
     }
 
-    /// How many items it has seen of the channel at this place.
+    /// Returns how many items it has seen of the channel at place `channel`; `None` if there is no such channel.
     pub fn seen(&self, channel: usize) -> Option<u64>
         ensures { result ≡ slice_get self.now.seen channel }
     {
         self.seen.get(channel).copied()
     }
 
-    /// It has seen so many items of the channel at this place too.
+    /// Notes that it has seen `count` items of the channel at place `channel`.
     pub(crate) fn note(&mut self, channel: usize, count: u64)
         ensures { self.new ≡ record self.old { seen = noted self.old.seen channel count } }
     {
@@ -50,7 +51,7 @@ impl<L: Ledgers> Pass<L> {
         }
     }
 
-    /// It has seen this reply of the channel at this place.
+    /// Notes that it has seen `reply` of the channel at place `channel`.
     pub(crate) fn note_reply(&mut self, channel: usize, reply: &Reply)
         ensures { self.new ≡ record self.old { seen = noted_reply self.old.seen channel reply.now } }
     {
@@ -61,7 +62,7 @@ impl<L: Ledgers> Pass<L> {
         }
     }
 
-    /// What it has counted.
+    /// Returns what it has counted.
     pub(crate) fn into_counts(self) -> PassCounts<L>
         ensures { result ≡ record { parts = 1; publishes = self.publishes; asks = self.asks } }
     {

@@ -1,6 +1,7 @@
-use ll_locked::Total;
+//! What a hub returns at its end.
+use ll_hub_channel::Total;
 
-/// What the channels of a hub have come to, in their order.
+/// The totals of a hub's channels, in their order.
 #[derive(Drop)]
 pub struct Totals {
     /// Each channel's total.

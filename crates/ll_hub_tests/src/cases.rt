@@ -1,4 +1,4 @@
-//! Hubs, and calls of them.
+//! Hubs that the tests share, calls of them, and their results as texts.
 ghost use Rattle.std.specs.Prelude.{◌≡◌};
 
 use crate::rows::{number, push, push_three};
@@ -12,37 +12,37 @@ use std::sync::Wait;
 use std::sync::atomic::{AtomicU64, Ordering};
 use std::thread;
 
-/// A channel of segments of 4 seconds, in parts of one second.
+/// The settings of a channel with segments of 4 seconds, in parts of one second.
 pub(crate) const CAM: &str =
     "channel cam target=4 part=1000000 skip=24 window=36 renditions=hi,lo first=0 start=0";
 
-/// Another of the same form.
+/// The settings of a second channel of this form.
 pub(crate) const DOOR: &str =
     "channel door target=4 part=1000000 skip=24 window=36 renditions=hi,lo first=0 start=0";
 
-/// A third of the same form.
+/// The settings of a third channel of this form.
 const YARD: &str =
     "channel yard target=4 part=1000000 skip=24 window=36 renditions=hi,lo first=0 start=0";
 
-/// A part that starts a segment, or goes on with one.
+/// The line of a part that doesn't finish its segment.
 pub(crate) const PART: &str = "part hi 1000000 i";
 
-/// A part that is a whole segment.
+/// The line of a part that is a whole segment.
 pub(crate) const SEGMENT: &str = "part hi 1000000 if";
 
-/// A request that waits for nothing.
+/// The target of a request that waits for nothing.
 pub(crate) const NOW: &str = "/cam/hi/live.m3u8";
 
-/// A request for the first part.
+/// The target of a request that awaits the first part.
 pub(crate) const FIRST: &str = "/cam/hi/live.m3u8?_HLS_msn=0&_HLS_part=0";
 
-/// A request for the second part.
+/// The target of a request that awaits the second part.
 pub(crate) const SECOND: &str = "/cam/hi/live.m3u8?_HLS_msn=0&_HLS_part=1";
 
-/// How often a thread looks for what another does, before it gives up.
+/// How often a thread looks for what another thread does, before it stops looking.
 const TURNS: u64 = 1_000_000;
 
-/// A clock that stands.
+/// A clock that always shows 0.
 #[derive(Clone, Copy)]
 pub(crate) struct Stopped;
 
@@ -54,7 +54,7 @@ impl Clock for Stopped {
     }
 }
 
-/// A clock that counts how often it is read, and is read no sooner than something came to its count, or the turns are over.
+/// A clock that counts its readings. A reading waits until `came` is at least 1, which `met` counts, or the turns are over.
 #[derive(Drop)]
 pub(crate) struct Waiting {
     pub(crate) readings: AtomicU64,
@@ -63,7 +63,7 @@ pub(crate) struct Waiting {
 }
 
 impl Waiting {
-    /// One that wasn't read, where so much came.
+    /// Returns a clock without readings, whose `came` begins at this number.
     pub(crate) fn new(came: u64) -> Waiting {
         Waiting {
             readings: AtomicU64::new(0),
@@ -85,7 +85,7 @@ impl Clock for Waiting {
     }
 }
 
-/// Whether the count comes to so many within the turns.
+/// Returns whether `count` reaches `wanted` within the turns.
 pub(crate) fn comes_to(count: &AtomicU64, wanted: u64) -> bool {
     for _ in 0..TURNS {
         if count.load(Ordering::SeqCst) >= wanted {
@@ -96,17 +96,17 @@ pub(crate) fn comes_to(count: &AtomicU64, wanted: u64) -> bool {
     false
 }
 
-/// One more.
+/// Adds one to `count`.
 pub(crate) fn add_one(count: &AtomicU64) {
     count.fetch_add(1, Ordering::SeqCst);
 }
 
-/// The settings of a line.
+/// Returns the settings of `line`.
 pub(crate) fn settings(rt: &impl Abort, alloc: Global, line: &str) -> Settings {
     Settings::read(alloc, line).expect(rt, "settings")
 }
 
-/// A hub of one channel.
+/// Returns a hub of one channel.
 pub(crate) fn hub_of_one<L: Ledgers>(rt: &impl Abort, alloc: Global, blanks: Blanks) -> Hub<L>
     requires names { blanks ≡ L.names }
     requires channels { L.channels ≡ 1 }
@@ -115,7 +115,7 @@ pub(crate) fn hub_of_one<L: Ledgers>(rt: &impl Abort, alloc: Global, blanks: Bla
     Hub::new(alloc, channels, blanks).expect(rt, "a hub")
 }
 
-/// A hub of two channels.
+/// Returns a hub of two channels.
 pub(crate) fn hub_of_two<L: Ledgers>(rt: &impl Abort, alloc: Global, blanks: Blanks) -> Hub<L>
     requires names { blanks ≡ L.names }
     requires channels { L.channels ≡ 2 }
@@ -138,12 +138,12 @@ pub(crate) fn hub_of_three<L: Ledgers>(rt: &impl Abort, alloc: Global, blanks: B
     Hub::new(alloc, channels, blanks).expect(rt, "a hub")
 }
 
-/// A pass of a hub.
+/// Returns a pass of `hub`.
 pub(crate) fn seat<L: Ledgers, R: Wait + Abort>(rt: &R, hub: &Hub<L>) -> Pass<L> {
     hub.seat(rt).expect(rt, "a pass")
 }
 
-/// Publishes what a line announces.
+/// Publishes the item of `line`. Returns how many items the channel has accepted with it.
 pub(crate) fn publish<L: Ledgers, R: Wait + Abort>(
     rt: &R,
     alloc: Global,
@@ -158,7 +158,7 @@ pub(crate) fn publish<L: Ledgers, R: Wait + Abort>(
     Ok(count.into_inner())
 }
 
-/// Publishes what a line announces, which is accepted: how many items the channel has accepted with it.
+/// Publishes the item of `line`, which is accepted. Returns how many items the channel has accepted with it.
 pub(crate) fn published<L: Ledgers, R: Wait + Abort>(
     rt: &R,
     alloc: Global,
@@ -170,7 +170,7 @@ pub(crate) fn published<L: Ledgers, R: Wait + Abort>(
     publish(rt, alloc, hub, pass, channel, line).expect(rt, "an item that is accepted")
 }
 
-/// Asks for a target.
+/// Makes a request for `target`.
 pub(crate) fn ask<L: Ledgers, C: Clock, R: Wait + Abort>(
     rt: &R,
     alloc: Global,
@@ -184,7 +184,7 @@ pub(crate) fn ask<L: Ledgers, C: Clock, R: Wait + Abort>(
     hub.ask(rt, clock, pass, channel, want)
 }
 
-/// The reply to a request; nothing, where it is held, and then it is given up.
+/// Returns the reply to a request for `target`. If the request is held, it is closed, and the result is `None`.
 pub(crate) fn reply<L: Ledgers, C: Clock, R: Wait + Abort>(
     rt: &R,
     alloc: Global,
@@ -203,7 +203,7 @@ pub(crate) fn reply<L: Ledgers, C: Clock, R: Wait + Abort>(
     }
 }
 
-/// How many items there are at the playlist that a request gets at once; 0 where it gets none.
+/// Returns how many items the playlist has that a request for `target` gets at once; 0 if it gets none.
 pub(crate) fn asked<L: Ledgers, C: Clock, R: Wait + Abort>(
     rt: &R,
     alloc: Global,
@@ -219,7 +219,7 @@ pub(crate) fn asked<L: Ledgers, C: Clock, R: Wait + Abort>(
     }
 }
 
-/// A request that is held.
+/// Makes a request for `target`, which is held, and returns its claim.
 pub(crate) fn held<L: Ledgers, C: Clock, R: Wait + Abort>(
     rt: &R,
     alloc: Global,
@@ -235,7 +235,7 @@ pub(crate) fn held<L: Ledgers, C: Clock, R: Wait + Abort>(
     }
 }
 
-/// The reply to a held request.
+/// Waits for the reply to a held request, and returns it.
 fn collected<L: Ledgers, R: Wait + Abort>(
     rt: &R,
     hub: &Hub<L>,
@@ -245,7 +245,7 @@ fn collected<L: Ledgers, R: Wait + Abort>(
     hub.wait(rt, pass, claim).expect(rt, "a reply").into_inner()
 }
 
-/// What a held request gets in the end: how many items there are at a playlist and its last line, or the name of another reply.
+/// Waits for the reply to a held request, and returns it as a text: how many items a playlist has and its last line, or the name of another reply.
 pub(crate) fn awaited<L: Ledgers, R: Wait + Abort>(
     rt: &R,
     alloc: Global,
@@ -257,7 +257,7 @@ pub(crate) fn awaited<L: Ledgers, R: Wait + Abort>(
     told(alloc, &reply).expect(rt, "a text")
 }
 
-/// How many items there are at a playlist and its last line, or the name of another reply.
+/// Returns how many items a playlist has and its last line, or the name of another reply.
 fn told(alloc: Global, reply: &Reply) -> Result<String, AllocError> {
     match reply {
         Reply::Text(page) => told_page(alloc, page.number(), page.text()),
@@ -265,13 +265,13 @@ fn told(alloc: Global, reply: &Reply) -> Result<String, AllocError> {
     }
 }
 
-/// A number of items, and the last line of a playlist.
+/// Returns a number of items and the last line of `text`.
 fn told_page(alloc: Global, number: u64, text: &str) -> Result<String, AllocError> {
     let last = text.lines().last().unwrap_or("");
     format!(in alloc; "{number} {last}")
 }
 
-/// Gives a request up: tells whether the hub held it.
+/// Closes a request. Returns whether the hub held it.
 pub(crate) fn close<L: Ledgers, R: Wait>(rt: &R, hub: &Hub<L>, claim: Claim) -> &'static str {
     if hub.close(rt, claim) {
         "closed, "
@@ -280,7 +280,7 @@ pub(crate) fn close<L: Ledgers, R: Wait>(rt: &R, hub: &Hub<L>, claim: Claim) -> 
     }
 }
 
-/// Takes what comes to a channel: a part, or a reading of the clock in milliseconds.
+/// Publishes a part, or takes a reading of the clock in milliseconds, as `event` says.
 pub(crate) fn take<L: Ledgers, R: Wait + Abort>(
     rt: &R,
     alloc: Global,
@@ -296,7 +296,7 @@ pub(crate) fn take<L: Ledgers, R: Wait + Abort>(
     hub.tick(rt, ms).expect(rt, "a reading");
 }
 
-/// The name of a fault that is expected.
+/// Returns the name of `fault`, if it is one that the tests expect.
 pub(crate) fn fault_name(fault: Option<HubFault>) -> &'static str {
     match fault {
         None => "no fault",
@@ -307,8 +307,8 @@ pub(crate) fn fault_name(fault: Option<HubFault>) -> &'static str {
     }
 }
 
-/// Spends a hub and these passes: of each channel how many items were accepted, how many requests made, and how many of them held at
-/// the end; or why that isn't told.
+/// Finishes a hub with `passes`. Returns for each channel how many items were accepted, how many requests were made, and how many of these are held
+/// at the end; or the name of the fault.
 pub(crate) fn finished<L: Ledgers>(
     rt: &impl Abort,
     alloc: Global,
@@ -330,7 +330,7 @@ fn push_totals(rt: &impl Abort, text: &mut String, totals: &Totals) {
     }
 }
 
-/// Appends what [`finished`] tells of a hub that gave one pass.
+/// Appends the result of [`finished_with`].
 pub(crate) fn push_finished<L: Ledgers>(
     rt: &impl Abort,
     alloc: Global,
@@ -342,7 +342,7 @@ pub(crate) fn push_finished<L: Ledgers>(
     push(rt, text, totals.as_str());
 }
 
-/// Spends a hub that gave one pass: what [`finished`] tells.
+/// Returns the result of [`finished`] for a hub that gave one pass.
 pub(crate) fn finished_with<L: Ledgers>(
     rt: &impl Abort,
     alloc: Global,

@@ -1,4 +1,4 @@
-//! A channel with as many held requests as it holds.
+//! A test of a channel with as many held requests as it can hold.
 ghost use Rattle.std.specs.Prelude.{◌≡◌};
 
 use crate::cases::{FIRST, Stopped, ask, finished_with, hub_of_one, push_finished, reply, seat};
@@ -11,10 +11,10 @@ use std::marker::Brand;
 use std::process::Abort;
 use std::sync::Wait;
 
-/// How many requests a channel holds.
+/// How many requests a channel can hold.
 const HELD: u64 = 65_536;
 
-/// Asks a hub for the first part, and gives the claim to another hub, so that the request stays held: whether it is held.
+/// Asks `hub` for the first part, and closes the claim in `other`, so that `hub` goes on holding the request. Returns whether it is held.
 fn hold<L: Ledgers, M: Ledgers, R: Wait + Abort>(
     rt: &R,
     alloc: Global,
@@ -31,8 +31,8 @@ fn hold<L: Ledgers, M: Ledgers, R: Wait + Abort>(
     }
 }
 
-/// As [`hold`], but where the record is full, it is handed out before the request is made once more. Counts the records, and the requests
-/// that are held.
+/// Holds a request as [`hold`] does; if the record is full, hands it out and tries once more. `counts` counts the records that were full, and the
+/// requests that are held.
 fn hold_one<L: Ledgers, M: Ledgers, R: Wait + Abort>(
     rt: &R,
     alloc: Global,
@@ -52,7 +52,7 @@ fn hold_one<L: Ledgers, M: Ledgers, R: Wait + Abort>(
     }
 }
 
-/// Whether a request, or the reading of the clock before it, was refused since the record is full.
+/// Returns whether a request, or the reading of the clock before it, was refused because the record is full.
 fn is_full(asked: &Result<bool, HubFault>) -> bool {
     matches!(
         asked,
@@ -63,7 +63,7 @@ fn is_full(asked: &Result<bool, HubFault>) -> bool {
     )
 }
 
-/// The name of the reply to one more request.
+/// Returns the name of the reply to one more request.
 fn one_more<L: Ledgers, R: Wait + Abort>(
     rt: &R,
     alloc: Global,
@@ -77,8 +77,8 @@ fn one_more<L: Ledgers, R: Wait + Abort>(
     }
 }
 
-/// Holds as many requests as a channel holds, and makes one more: how many records were full, how many requests are held, what the one more
-/// gets, and the totals.
+/// Holds as many requests as a channel can hold, and makes one more. Returns how many records were full, how many requests are held, what the last
+/// request gets, and the totals.
 fn crowd<L: Ledgers, M: Ledgers, R: Wait + Abort>(
     rt: &R,
     alloc: Global,
@@ -108,7 +108,7 @@ fn crowd<L: Ledgers, M: Ledgers, R: Wait + Abort>(
     text
 }
 
-/// A record is handed out as often as it is full; a request more than the channel holds is Busy.
+/// Hands out the record each time that it is full; a request beyond those that the channel can hold is Busy.
 #[test]
 fn full_channel_is_busy(rt: HostRuntime) {
     let told = crowd::<Brand, Brand, HostRuntime>(&rt, rt.alloc(), Blanks::new(), Blanks::new());

@@ -1,5 +1,5 @@
-//! What a channel is to answer. Its items are kept here, beside the hub and without a room: playlists are those that the definitions give
-//! of what is kept, and media is made of the bytes that came with the items.
+//! The expected answers of a channel. Its items are kept here, apart from the hub and without a room: playlists are those that the definitions give
+//! for what is kept, and media is made of the bytes that came with the items.
 use crate::rows::push;
 use ll_item::{Item, Settings};
 use ll_page::{Page, Rendition, Shown, SkipKind};
@@ -10,7 +10,7 @@ use std::fmt::Write;
 use std::mem;
 use std::process::Abort;
 
-/// The playlists that are asked for: the target, the rendition's index and the form.
+/// The playlists that are asked for: target, index of the rendition, and form.
 pub(crate) const PLAYLISTS: [(&str, usize, Option<SkipKind>); 4] = [
     ("/door/hi/live.m3u8", 0, None),
     ("/door/lo/live.m3u8", 1, None),
@@ -18,7 +18,7 @@ pub(crate) const PLAYLISTS: [(&str, usize, Option<SkipKind>); 4] = [
     ("/door/hi/live.m3u8?_HLS_skip=v2", 0, Some(SkipKind::V2)),
 ];
 
-/// The number by which a file of media goes away.
+/// The number that decides when a file of media is dropped.
 #[derive(Clone, Copy)]
 enum Number {
     /// The Media Sequence Number of a segment, or of a part's segment.
@@ -35,7 +35,7 @@ pub(crate) struct File {
     bytes: String,
 }
 
-/// What is kept of a channel, of whose renditions the first alone has media.
+/// What is kept of a channel. Only its first rendition has media.
 #[derive(Drop)]
 pub(crate) struct Expected {
     alloc: Global,
@@ -160,7 +160,7 @@ impl Expected {
         self.files.push(file).expect(rt, "files");
     }
 
-    /// Appends the line that the record has of the item of `line`, which was accepted with these `bytes`.
+    /// Appends the line that the record has for the item of `line`, which was accepted with these `bytes`.
     fn push_record(&mut self, rt: &impl Abort, line: &str, bytes: &str) {
         let length = bytes.len();
         let pushed = if has_bytes(line) {
@@ -183,12 +183,12 @@ impl Expected {
         page.expect(rt, "memory").expect(rt, "a rendition")
     }
 
-    /// Returns the files that were announced, also those that are no longer there.
+    /// Returns the files that were announced, also those that aren't there any more.
     pub(crate) fn files(&self) -> &[File] {
         &self.files
     }
 
-    /// Returns what a request for `file` is answered: its bytes, or that they aren't there.
+    /// Returns the answer to a request for `file`: its bytes, or NotFound.
     pub(crate) fn answer(&self, rt: &impl Abort, file: &File) -> String {
         if self.is_there(rt, file.number) {
             numbered(rt, self.alloc, self.accepted, file.bytes.as_str())
@@ -197,8 +197,8 @@ impl Expected {
         }
     }
 
-    /// Returns whether a file of this `number` is there: no segment is that has left the window, and no part of one; and no initialization
-    /// section that isn't in force any more at what the window shows.
+    /// Returns whether a file of this `number` is there. A segment and its parts aren't if the segment has left the window; an initialization section
+    /// isn't if nothing that the window shows needs it any more.
     fn is_there(&self, rt: &impl Abort, number: Number) -> bool {
         let window = self.window(rt);
         match number {
@@ -233,7 +233,7 @@ fn has_bytes(line: &str) -> bool {
     line.starts_with("part ") || line.starts_with("init ")
 }
 
-/// Takes `item` in, which no rule refuses.
+/// Adds `item`, which no rule refuses, to `rendition`.
 fn take_in(rt: &impl Abort, rendition: &mut Rendition, item: Item) {
     match rendition.test(&item) {
         Ok(()) => rendition.accept(item).expect(rt, "memory"),
@@ -241,12 +241,12 @@ fn take_in(rt: &impl Abort, rendition: &mut Rendition, item: Item) {
     }
 }
 
-/// Returns a copy of a text.
+/// Returns a copy of `of`.
 pub(crate) fn text(rt: &impl Abort, alloc: Global, of: &str) -> String {
     String::from_str(alloc, of).expect(rt, "a text")
 }
 
-/// Returns a text of how many `items` there are at an `answer`, and of that.
+/// Returns a text of `answer` and how many `items` there are at it.
 pub(crate) fn numbered(rt: &impl Abort, alloc: Global, items: u64, answer: &str) -> String {
     format!(in alloc; "after {items} items: {answer}").expect(rt, "a text")
 }

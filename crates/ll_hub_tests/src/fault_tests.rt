@@ -1,4 +1,4 @@
-//! Calls that a hub refuses.
+//! Tests of calls that a hub refuses.
 ghost use Rattle.std.specs.Prelude.{◌≡◌};
 
 use crate::cases::{
@@ -12,7 +12,7 @@ use std::marker::Brand;
 use std::process::Abort;
 use std::sync::Wait;
 
-/// Publishes in a channel that a hub doesn't have, and asks it: both are refused.
+/// Publishes an item in a channel that a hub doesn't have, and makes a request of it. Both are refused.
 fn call<L: Ledgers, R: Wait + Abort>(
     rt: &R,
     alloc: Global,
@@ -26,12 +26,12 @@ fn call<L: Ledgers, R: Wait + Abort>(
     same(rt, "a request", fault_name(asked), "UnknownChannel");
 }
 
-/// A pass has seen nothing of a channel that its hub has.
+/// Checks that a pass has seen nothing of a channel of its hub.
 fn check_unseen<L: Ledgers>(rt: &impl Abort, pass: &Pass<L>, channel: usize) {
     same_number(rt, "items", pass.seen(channel).unwrap_or(u64::MAX), 0);
 }
 
-/// Calls a channel that a hub doesn't have: nothing happens. Tells the totals.
+/// Makes calls of a channel that a hub doesn't have, which change nothing. Returns the totals.
 fn call_beyond<L: Ledgers, R: Wait + Abort>(
     rt: &R,
     alloc: Global,
@@ -49,7 +49,7 @@ fn call_beyond<L: Ledgers, R: Wait + Abort>(
     finished_with(rt, alloc, hub, pass)
 }
 
-/// A channel that a hub doesn't have can't be called.
+/// Checks that a channel that a hub doesn't have can't be called.
 fn check_beyond<R: Wait + Abort>(rt: &R, alloc: Global, channel: usize) {
     let totals = call_beyond::<Brand, R>(rt, alloc, Blanks::new(), channel);
     same(rt, "the totals", totals.as_str(), "0 0 0;0 0 0;");
@@ -61,8 +61,8 @@ fn unknown_channels_are_refused(rt: HostRuntime) {
     check_beyond(&rt, rt.alloc(), usize::MAX);
 }
 
-/// Holds two requests of a channel, and waits for one and gives the other up in another hub, which doesn't hold them: why the wait is
-/// refused, and whether the other request was held there.
+/// Holds two requests of a channel, waits for one in another hub, which doesn't hold them, and closes the other there. Appends why the wait is
+/// refused, and whether the other hub held the closed request.
 fn spend_elsewhere<L: Ledgers, M: Ledgers, R: Wait + Abort>(
     rt: &R,
     alloc: Global,
@@ -82,8 +82,8 @@ fn spend_elsewhere<L: Ledgers, M: Ledgers, R: Wait + Abort>(
     theirs
 }
 
-/// Spends two requests of the second of two channels, or of the first, in a hub of one channel: what comes of it, the totals of that hub,
-/// and those of their own.
+/// Spends two requests of one of two channels in a hub of one channel. Returns what [`spend_elsewhere`] appends, the totals of that hub, and those of
+/// their own.
 fn claim_elsewhere<L: Ledgers, M: Ledgers, R: Wait + Abort>(
     rt: &R,
     alloc: Global,
@@ -106,7 +106,7 @@ fn claim_elsewhere<L: Ledgers, M: Ledgers, R: Wait + Abort>(
     text
 }
 
-/// A claim is spent where its hub doesn't have it, too.
+/// A claim is spent also in a hub that doesn't hold its request.
 #[test]
 fn claims_of_other_hubs_are_refused(rt: HostRuntime) {
     for channel in 0..2 {
@@ -121,7 +121,7 @@ fn claims_of_other_hubs_are_refused(rt: HostRuntime) {
     }
 }
 
-/// What comes of two requests of this channel that are spent in another hub.
+/// Returns the expected result for two requests of `channel` that are spent in another hub.
 fn spent_elsewhere(channel: usize) -> &'static str {
     if channel == 0 {
         "Stranger, strange, 0 0 0;0 2 2;0 0 0;"

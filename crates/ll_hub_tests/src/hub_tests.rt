@@ -1,4 +1,4 @@
-//! Calls of a hub, one after another.
+//! Tests of a hub's calls, one after another.
 ghost use Rattle.std.specs.Prelude.{◌≡◌};
 
 use crate::cases::{
@@ -12,7 +12,7 @@ use std::marker::Brand;
 use std::process::Abort;
 use std::sync::Wait;
 
-/// Publishes and then asks: appends the count of the one, the number of the other, and how many items the pass has seen.
+/// Publishes an item and asks for the playlist. Appends the item's number, how many items the playlist has, and how many the pass has seen.
 fn turn<L: Ledgers, R: Wait + Abort>(
     rt: &R,
     alloc: Global,
@@ -26,7 +26,7 @@ fn turn<L: Ledgers, R: Wait + Abort>(
     push_three(rt, text, count, number, seen);
 }
 
-/// Publishes and asks by turns: what each turn tells, and the totals.
+/// Publishes and asks eight times. Returns the numbers of each turn, and the totals.
 fn publish_and_ask<L: Ledgers, R: Wait + Abort>(rt: &R, alloc: Global, blanks: Blanks) -> String
     requires names { blanks ≡ L.names }
     requires channels { L.channels ≡ 1 }
@@ -41,10 +41,10 @@ fn publish_and_ask<L: Ledgers, R: Wait + Abort>(rt: &R, alloc: Global, blanks: B
     text
 }
 
-/// What eight turns tell.
+/// The numbers of the eight turns, and the totals.
 const TURNS: &str = "1 1 1;2 2 2;3 3 3;4 4 4;5 5 5;6 6 6;7 7 7;8 8 8;8 8 0;";
 
-/// An answer is no older than what its caller published before.
+/// An answer has all that its caller has published before.
 #[test]
 fn ask_after_publish_has_it(rt: HostRuntime) {
     let told = publish_and_ask::<Brand, HostRuntime>(&rt, rt.alloc(), Blanks::new());
@@ -64,7 +64,7 @@ fn take_each<L: Ledgers, R: Wait + Abort>(
     }
 }
 
-/// What a request gets that is held after the events of the first column, and waits for after those of the third.
+/// Makes a request, which is held, between the events of the first column and those of the third. Returns what it gets.
 fn wait<L: Ledgers, R: Wait + Abort>(
     rt: &R,
     alloc: Global,
@@ -78,7 +78,7 @@ fn wait<L: Ledgers, R: Wait + Abort>(
     awaited(rt, alloc, hub, pass, claim)
 }
 
-/// What a request gets that waits for what a row says, and the totals.
+/// Returns what the request of a row gets, and the totals.
 fn waited<L: Ledgers, R: Wait + Abort>(
     rt: &R,
     alloc: Global,
@@ -96,7 +96,7 @@ fn waited<L: Ledgers, R: Wait + Abort>(
     text
 }
 
-/// What comes before a request, its target, what comes after it, and what it gets.
+/// The events before a request, its target, the events after it, what it gets, and the totals.
 const HELD: &str =
     " | /cam/hi/live.m3u8?_HLS_msn=0&_HLS_part=0 | part => 1 #EXT-X-PRELOAD-HINT:TYPE=PART,URI=\"s0.1.m4s\" 1 1 0;
 part | /cam/hi/live.m3u8?_HLS_msn=0&_HLS_part=1 | part => 2 #EXT-X-PRELOAD-HINT:TYPE=PART,URI=\"s0.2.m4s\" 2 1 0;
@@ -114,7 +114,7 @@ fn held_requests_get_what_comes_first(rt: HostRuntime) {
     }
 }
 
-/// Holds a request of a hub, and gives it up there, or in another hub, which doesn't hold it.
+/// Holds a request of `hub`, and closes it there, or in `other`, which doesn't hold it.
 fn hold_one<L: Ledgers, M: Ledgers, R: Wait + Abort>(
     rt: &R,
     alloc: Global,
@@ -131,7 +131,7 @@ fn hold_one<L: Ledgers, M: Ledgers, R: Wait + Abort>(
     }
 }
 
-/// Holds three requests of a hub. Gives so many of them up, and the others in another hub: how each was given up.
+/// Holds three requests of `hub`. Closes the first `given_up` of them there, and the others in `other`. Returns how each was closed.
 fn hold_three<L: Ledgers, M: Ledgers, R: Wait + Abort>(
     rt: &R,
     alloc: Global,
@@ -148,8 +148,8 @@ fn hold_three<L: Ledgers, M: Ledgers, R: Wait + Abort>(
     text
 }
 
-/// Holds three requests of a hub, and gives up as many as a row says, and the others in another hub: how each was given up, and the
-/// totals of the other hub and of the first.
+/// Holds three requests of a hub; closes as many there as the row says, and the others in another hub. Returns how each was closed, and the totals of
+/// the other hub and of the first.
 fn give_up<L: Ledgers, M: Ledgers, R: Wait + Abort>(
     rt: &R,
     alloc: Global,
@@ -173,13 +173,13 @@ fn give_up<L: Ledgers, M: Ledgers, R: Wait + Abort>(
     text
 }
 
-/// How many requests are given up, and what is told.
+/// How many requests are closed in their hub, how each is closed, and the totals of both hubs.
 const GIVEN_UP: &str = "0 => strange, strange, strange, 0 0 0;0 3 3;
 1 => closed, strange, strange, 0 0 0;0 3 2;
 2 => closed, closed, strange, 0 0 0;0 3 1;
 3 => closed, closed, closed, 0 0 0;0 3 0;";
 
-/// A request that is given up gets no reply. What is still held at the end is told, and closed.
+/// A closed request gets no reply. Those that are still held at the end are counted, and closed.
 #[test]
 fn finish_tells_what_is_held(rt: HostRuntime) {
     for line in GIVEN_UP.lines() {
@@ -195,7 +195,7 @@ fn finish_tells_what_is_held(rt: HostRuntime) {
     }
 }
 
-/// Takes all passes that a hub gives, lets them go, and asks for one more: why that is refused, and why the hub tells no totals.
+/// Takes all passes that a hub gives, drops them, and asks for one more. Returns why the hub has no totals, and why it gives no further pass.
 fn take_all<L: Ledgers, R: Wait + Abort>(rt: &R, alloc: Global, blanks: Blanks) -> String
     requires names { blanks ≡ L.names }
     requires channels { L.channels ≡ 1 }
@@ -226,7 +226,7 @@ fn end_untouched<L: Ledgers>(rt: &impl Abort, alloc: Global, blanks: Blanks) -> 
     finished(rt, alloc, hub, Vec::new(alloc))
 }
 
-/// Makes the requests of `row`, each told by its channel's place and its target, and gives up those that are held.
+/// Makes the requests of `row`, each given by its channel's place and its target, and closes those that are held.
 fn ask_each<L: Ledgers, R: Wait + Abort>(
     rt: &R,
     alloc: Global,
@@ -243,7 +243,7 @@ fn ask_each<L: Ledgers, R: Wait + Abort>(
     }
 }
 
-/// Returns the totals of a hub of three channels to which the requests of `row` came, and nothing else.
+/// Returns the totals of a hub of three channels after the requests of `row` alone.
 fn ask_alone<L: Ledgers, R: Wait + Abort>(
     rt: &R,
     alloc: Global,
@@ -259,15 +259,14 @@ fn ask_alone<L: Ledgers, R: Wait + Abort>(
     finished_with(rt, alloc, hub, pass)
 }
 
-/// Requests of three channels, and the totals if nothing else came: none; one; playlists, and a part that is waited for; what is too far
-/// ahead, and what isn't there.
+/// Requests of three channels, and the totals after them alone: none; one; playlists, and a part that is awaited; what is too far ahead, and what
+/// isn't there.
 const ASKED: &str = " => 0 0 0;0 0 0;0 0 0;
 1 /door/hi/live.m3u8 => 0 0 0;0 1 0;0 0 0;
 0 /cam/hi/live.m3u8 | 2 /yard/hi/live.m3u8?_HLS_skip=YES | 0 /cam/lo/s0.0.m4s => 0 2 0;0 0 0;0 1 0;
 2 /yard/lo/live.m3u8?_HLS_msn=9 | 2 /yard/hi/init0.mp4 | 0 /cam/other/live.m3u8 => 0 1 0;0 0 0;0 2 0;";
 
-/// Finds all totals 0 of a hub to which nothing happened, whether it gave a pass or not; of one to which requests alone came, those of each
-/// channel.
+/// All totals of a hub to which nothing happened are 0, whether it gave a pass or not. After requests alone, the totals count those of each channel.
 #[test]
 fn totals_begin_at_zero(rt: HostRuntime) {
     let told = end_untouched::<Brand>(&rt, rt.alloc(), Blanks::new());

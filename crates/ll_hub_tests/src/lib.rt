@@ -1,4 +1,4 @@
-//! Tests of `ll_hub`, with threads. They stand here so that it isn't proved a second time for its tests.
+//! Tests of `ll_hub`, with threads. They have a crate of their own so that `ll_hub` isn't proved a second time for them.
 #![tactic(auto)]
 
 #[cfg(test)]

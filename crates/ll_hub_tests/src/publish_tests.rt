@@ -1,4 +1,4 @@
-//! What is published in one of two channels, and what that channel answers after each item.
+//! Tests that publish in one of two channels, and compare what that channel answers after each item with what is expected.
 ghost use Rattle.std.specs.Prelude.{◌≡◌};
 
 use crate::cases::{DOOR, Stopped, finished_with, hub_of_two, reply, seat, settings};
@@ -8,15 +8,15 @@ use ll_check::check;
 use ll_hub::{Blanks, Hub, Ledgers, Pass};
 use ll_item::{Item, Payload};
 use ll_record::Chunk;
-use ll_verdict::{Piece, Reply};
+use ll_verdict::{MediaReply, Reply};
 use std::alloc::Global;
 use std::marker::Brand;
 use std::process::Abort;
 use std::str;
 use std::sync::Wait;
 
-/// Items, a line each, and what each of them is answered: how many items the channel has accepted with it, or why it isn't accepted. `segment`
-/// stands for the four parts of a segment, the last of which gets the answer. After a rendition stands how many bytes its playlist has.
+/// Items, a line each, and what each is answered: how many items the channel has accepted with it, or why it isn't accepted. `segment` stands for the
+/// four parts of a segment, the last of which gets the answer. After the name of a rendition stands how many bytes its playlist has.
 #[derive(Clone, Copy)]
 struct Table {
     lines: &'static str,
@@ -33,8 +33,8 @@ const ONE: &str = "part hi 1000000 if => 1
 hi => 467
 lo => 373";
 
-/// A segment, a break and nine segments, with which what came before the break leaves the window; and another one, with which the segment
-/// that the break stands before leaves it too.
+/// A segment, a break and nine segments, with which what came before the break leaves the window; then one more, with which the segment after the
+/// break leaves it too.
 const BREAK: &str = "segment => 4
 break hi => 5
 segment => 9
@@ -50,7 +50,7 @@ hi => 1568
 segment => 45
 hi => 1552";
 
-/// Items of which many are refused; a bar parts a channel that isn't the second from its line.
+/// Items of which many are refused. Before a bar stands the name of a channel, if it isn't that of the second.
 const REFUSED: &str = "part hi 0 - => BadDuration
 part hi 1000001 - => TooLong
 part hi 1000000 - => 1
@@ -72,8 +72,7 @@ part zz 1 f => NoRendition
 part hi x f => BadLine
 zz | part hi 1 f => UnknownChannel";
 
-/// Initialization sections, one of which takes the place of another and one of which leaves with its segment; a segment that a finish ends,
-/// and one that the end ends.
+/// Initialization sections, of which one replaces another, and one leaves with its segment; a segment that a finish ends, and one that the end ends.
 const SECTIONS: &str = "init hi => 1
 init hi => 2
 finish hi => NoSegment
@@ -103,7 +102,7 @@ part hi 1000000 f => Ended
 finish hi => Ended
 end hi => Ended";
 
-/// Returns what a `reply` tells: how many items there are at a playlist or media and its text, or the name of another reply.
+/// Returns the text of a `reply`: how many items there are at a playlist or media and its text, or the name of another reply.
 fn told(rt: &impl Abort, alloc: Global, reply: &Option<Reply>) -> String {
     match reply {
         Some(Reply::Text(page)) => numbered(rt, alloc, page.number(), page.text()),
@@ -117,7 +116,7 @@ fn told(rt: &impl Abort, alloc: Global, reply: &Option<Reply>) -> String {
 }
 
 /// Returns the bytes of media, as a text.
-fn text_of(rt: &impl Abort, alloc: Global, piece: &Piece) -> String {
+fn text_of(rt: &impl Abort, alloc: Global, piece: &MediaReply) -> String {
     let mut all = String::new(alloc);
     for media in piece.bytes.parts() {
         let bytes = media.bytes().expect(rt, "bytes");
@@ -140,7 +139,7 @@ fn check_answer<L: Ledgers, R: Wait + Abort>(
     same(rt, target, told.as_str(), expected);
 }
 
-/// Compares what it answers to requests for its playlists with what is expected.
+/// Compares what the second channel answers to requests for its playlists with what is expected.
 fn check_playlists<L: Ledgers, R: Wait + Abort>(
     rt: &R,
     alloc: Global,
@@ -155,7 +154,7 @@ fn check_playlists<L: Ledgers, R: Wait + Abort>(
     }
 }
 
-/// Compares what it answers to requests for its media, that which isn't there any more included, with what is expected.
+/// Compares what the second channel answers to requests for its media, also for media that isn't there any more, with what is expected.
 fn check_media<L: Ledgers, R: Wait + Abort>(
     rt: &R,
     alloc: Global,
@@ -238,7 +237,7 @@ fn length(rt: &impl Abort, alloc: Global, expected: &Expected, rendition: usize)
     format!(in alloc; "{length}").expect(rt, "a text")
 }
 
-/// Returns what comes of the input of `row`.
+/// Returns the result of the input of `row`.
 fn take_row<L: Ledgers, R: Wait + Abort>(
     rt: &R,
     alloc: Global,
@@ -260,7 +259,7 @@ fn take_row<L: Ledgers, R: Wait + Abort>(
     }
 }
 
-/// Returns the record of a `channel`, which is handed out.
+/// Hands out the record of a `channel`, and returns it.
 fn chunk<L: Ledgers, R: Wait + Abort>(rt: &R, hub: &Hub<L>, channel: usize) -> Chunk {
     hub.rotate(rt, channel).expect(rt, "a chunk")
 }
@@ -277,7 +276,7 @@ fn item_lines(rt: &impl Abort, alloc: Global, record: &str) -> String {
     items
 }
 
-/// Finds nothing in the first channel's record, and the second one's right, with the items that are expected.
+/// Checks that the first channel's record is empty, and that the second one's is right and has the expected items.
 fn check_records<L: Ledgers, R: Wait + Abort>(
     rt: &R,
     alloc: Global,
@@ -321,8 +320,8 @@ fn publish_in_second<L: Ledgers, R: Wait + Abort>(
     );
 }
 
-/// Finds what is published in one channel answered and recorded there as the definitions say, and nothing of it in another; what is refused
-/// changes nothing.
+/// What is published in one channel is answered and recorded there as the definitions say, and changes no other channel. What is refused changes
+/// nothing.
 #[test]
 fn publishes_reach_their_channel(rt: HostRuntime) {
     for lines in [ONE, BREAK, REFUSED, SECTIONS] {

@@ -1,4 +1,4 @@
-//! The records that a hub's channels hand out.
+//! A test of the records that a hub's channels hand out.
 ghost use Rattle.std.specs.Prelude.{◌≡◌};
 
 use crate::cases::{NOW, SEGMENT, Stopped, add_one, asked, finished, hub_of_one, published, seat};
@@ -23,7 +23,7 @@ struct Kept<'a, R> {
 }
 
 impl<'a, R: Wait> Kept<'a, R> {
-    /// One that has taken nothing.
+    /// Returns a sink that has taken nothing.
     fn new(rt: &'a R, alloc: Global) -> Kept<'a, R> {
         Kept {
             rt,
@@ -32,32 +32,32 @@ impl<'a, R: Wait> Kept<'a, R> {
         }
     }
 
-    /// How many chunks it has taken.
+    /// Returns how many chunks the sink has taken.
     fn chunks(&self) -> u64 {
         self.chunks.load(Ordering::SeqCst)
     }
 }
 
-/// How many entries the chunks of a sink have, where they are right; 0 of others.
+/// Returns how many entries the chunks of a sink have, or 0 if they aren't right.
 fn entries<R: Wait>(rt: &R, alloc: Global, sink: &Kept<'_, R>) -> u64 {
     let bytes = sink.bytes.lock(rt);
     check(alloc, &bytes).unwrap_or(0)
 }
 
-/// Hands the record of a hub's first channel to a sink.
+/// Hands out the record of a hub's first channel to a sink.
 fn hand_out<L: Ledgers, R: Wait + Abort>(rt: &R, hub: &Hub<L>, mut sink: &Kept<'_, R>) {
     hub.rotate_to(rt, 0, &mut sink).expect(rt, "a chunk");
 }
 
 impl<R: Wait> Sink for &Kept<'_, R> {
-    /// Where no memory is found, the bytes lack the chunk.
+    /// Takes a chunk. If memory is missing, the bytes lack the chunk.
     fn take(&mut self, _channel: usize, chunk: Chunk) {
         let _ = self.bytes.lock(self.rt).extend_from_slice(chunk.bytes());
         add_one(&self.chunks);
     }
 }
 
-/// The call of a thread that has this number: of each three the last asks, and the others publish.
+/// Makes call `number` of a thread: each third call asks, the others publish.
 fn call<L: Ledgers, R: Wait + Abort>(
     rt: &R,
     alloc: Global,
@@ -73,7 +73,7 @@ fn call<L: Ledgers, R: Wait + Abort>(
     }
 }
 
-/// Publishes 100 items and asks 50 times by one pass, and hands the record out after every tenth call.
+/// Publishes 100 items and makes 50 requests with one pass, and hands out the record after every tenth call.
 fn call_and_hand_out<L: Ledgers, R: Wait + Abort>(
     rt: &R,
     alloc: Global,
@@ -90,8 +90,8 @@ fn call_and_hand_out<L: Ledgers, R: Wait + Abort>(
     pass
 }
 
-/// Publishes and asks by three threads that hand the record out meanwhile. With one at the end there are 46 chunks, which have 600
-/// entries: the totals.
+/// Publishes and asks in three threads that hand out the record meanwhile, and checks the 46 chunks, one of them from the end, and their 600 entries.
+/// Returns the totals.
 fn record_by_three<L: Ledgers + Send + Sync, R: Threads + Wait + Abort + Sync>(
     rt: &R,
     alloc: Global,

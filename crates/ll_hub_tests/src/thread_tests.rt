@@ -1,4 +1,4 @@
-//! Calls of a hub by many threads.
+//! Tests of a hub that many threads call.
 ghost use Rattle.std.specs.Prelude.{◌≡◌};
 
 use crate::cases::{
@@ -16,7 +16,7 @@ use std::thread::Threads;
 use std::time::Duration;
 use std::{thread, time};
 
-/// Asks the second channel once the first one's clock is read, and counts the answer.
+/// Asks the second channel once the clock of the first one is read, and counts the answer.
 fn ask_second<L: Ledgers, R: Wait + Abort>(
     rt: &R,
     alloc: Global,
@@ -31,7 +31,7 @@ fn ask_second<L: Ledgers, R: Wait + Abort>(
     pass
 }
 
-/// Publishes a part in a channel, which had none.
+/// Publishes a part in a channel that had none.
 fn publish_first<L: Ledgers, R: Wait + Abort>(
     rt: &R,
     alloc: Global,
@@ -43,7 +43,7 @@ fn publish_first<L: Ledgers, R: Wait + Abort>(
     same_number(rt, "a part", count, 1);
 }
 
-/// Asks each of two channels, the second while the first is locked: the totals.
+/// Asks each of two channels, the second while the first is locked. Returns the totals.
 fn ask_both<L: Ledgers + Send + Sync, R: Threads + Wait + Abort + Sync>(
     rt: &R,
     alloc: Global,
@@ -75,8 +75,8 @@ fn channels_share_no_lock(rt: HostRuntime) {
     same(&rt, "the totals", totals.as_str(), "1 1 0;1 1 0;");
 }
 
-/// Publishes two items and then asks, where each count is more than those before, and the answer has what was published before: how many
-/// items there are at the answer.
+/// Publishes two items and then asks. Each count is larger than the one before, and the answer has the items that were published before. Returns how
+/// many items the answer has.
 fn publish_two_and_ask<L: Ledgers, R: Wait + Abort>(
     rt: &R,
     alloc: Global,
@@ -91,7 +91,7 @@ fn publish_two_and_ask<L: Ledgers, R: Wait + Abort>(
     found
 }
 
-/// Publishes 100 items and asks 50 times by one pass.
+/// Publishes 100 items and makes 50 requests with one pass.
 fn publish_and_ask<L: Ledgers, R: Wait + Abort>(rt: &R, alloc: Global, hub: &Hub<L>) -> Pass<L> {
     let mut pass = seat(rt, hub);
     let mut last = 0;
@@ -101,7 +101,7 @@ fn publish_and_ask<L: Ledgers, R: Wait + Abort>(rt: &R, alloc: Global, hub: &Hub
     pass
 }
 
-/// Publishes and asks by three threads, and loses a pass of theirs or none: the totals.
+/// Publishes and asks in three threads, and loses one of their passes if `is_one_lost`. Returns the totals.
 fn count_by_three<L: Ledgers + Send + Sync, R: Threads + Wait + Abort + Sync>(
     rt: &R,
     alloc: Global,
@@ -120,7 +120,7 @@ fn count_by_three<L: Ledgers + Send + Sync, R: Threads + Wait + Abort + Sync>(
     finished(rt, alloc, hub, passes)
 }
 
-/// The channels' totals are what the passes have counted; without one of the passes they aren't told.
+/// The channels' totals are what the passes have counted; without one of the passes there are none.
 #[test]
 fn totals_are_exact(rt: HostRuntime) {
     let totals = count_by_three::<Brand, HostRuntime>(&rt, rt.alloc(), Blanks::new(), false);
@@ -129,7 +129,7 @@ fn totals_are_exact(rt: HostRuntime) {
     same(&rt, "a pass is lost", totals.as_str(), "Short");
 }
 
-/// Waits for the first part, and gets what is expected.
+/// Waits for the first part, and compares the reply with `expected`.
 fn wait_for_first<L: Ledgers, R: Wait + Abort>(
     rt: &R,
     alloc: Global,
@@ -144,7 +144,7 @@ fn wait_for_first<L: Ledgers, R: Wait + Abort>(
     pass
 }
 
-/// Waits for the first part by three threads, each of which gets what is expected.
+/// Waits for the first part in three threads, each of which gets `expected`.
 fn wait_by_three<L: Ledgers + Send + Sync, R: Threads + Wait + Abort + Sync>(
     rt: &R,
     alloc: Global,
@@ -156,7 +156,7 @@ fn wait_by_three<L: Ledgers + Send + Sync, R: Threads + Wait + Abort + Sync>(
     thread::map_indices(rt, alloc, 3, &wait).expect(rt, "three threads")
 }
 
-/// Once three requests were made, waits a little, and then takes what ends their waiting.
+/// Waits until three requests were made, and a little more, and then takes the event that ends their waiting.
 fn end_waiting<L: Ledgers, R: Wait + time::Clock + Abort>(
     rt: &R,
     alloc: Global,
@@ -171,7 +171,7 @@ fn end_waiting<L: Ledgers, R: Wait + time::Clock + Abort>(
     pass
 }
 
-/// Lets three threads wait until the event of the first column, and each of them then gets the reply of the second: the totals.
+/// Lets three threads wait until the event of the first column, after which each gets the reply of the second. Returns the totals.
 fn wake_three<L: Ledgers + Send + Sync, R: Threads + Wait + time::Clock + Abort + Sync>(
     rt: &R,
     alloc: Global,
@@ -192,11 +192,11 @@ fn wake_three<L: Ledgers + Send + Sync, R: Threads + Wait + time::Clock + Abort 
     finished(rt, alloc, hub, passes)
 }
 
-/// What ends three threads' waiting, what each of them gets, and the totals.
+/// The event that ends three threads' waiting, what each of them gets, and the totals.
 const WOKEN: &str = "part | 1 #EXT-X-PRELOAD-HINT:TYPE=PART,URI=\"s0.1.m4s\" => 1 3 0;
 12000 | Timeout => 0 3 0;";
 
-/// A reply that becomes ready wakes all who wait for one.
+/// A reply that becomes ready wakes all threads that wait for one.
 #[test]
 fn waiting_threads_are_woken(rt: HostRuntime) {
     for line in WOKEN.lines() {

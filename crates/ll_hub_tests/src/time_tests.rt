@@ -1,4 +1,4 @@
-//! Requests that are waited for no longer than a limit, clocks that go back, and readings for some of the channels.
+//! Tests of waits with a limit, of clocks that go back, and of readings for some of the channels.
 ghost use Rattle.std.specs.Prelude.{◌≡◌, ◌≤◌, ◌^◌};
 
 use crate::cases::{
@@ -15,7 +15,7 @@ use std::sync::atomic::{AtomicU64, Ordering};
 use std::time;
 use std::time::Duration;
 
-/// A clock that shows 5,000 when it is read first, and 1,000 from then on.
+/// A clock whose first reading is 5,000, and each later one 1,000.
 #[derive(Drop)]
 struct Falling {
     readings: AtomicU64,
@@ -33,7 +33,7 @@ impl Clock for Falling {
     }
 }
 
-/// A request that is still held where its reply isn't waited for.
+/// Waits one millisecond for the reply to a request that is still held then, and returns its claim.
 fn still<L: Ledgers, R: Wait + Abort + time::Clock>(
     rt: &R,
     hub: &Hub<L>,
@@ -59,8 +59,8 @@ fn take_each<L: Ledgers, R: Wait + Abort>(
     }
 }
 
-/// What two requests get, of which one is made at 5,000 milliseconds and the other at a reading of 1,000, and which are still held after the events of
-/// the first column, but not after those of the second; and the totals.
+/// Returns what two requests get, and the totals. The first is made at 5,000 milliseconds, the second at a reading of 1,000. Both are still held
+/// after the events of the first column, but not after those of the second.
 fn gone_back<L: Ledgers, R: Wait + Abort + time::Clock>(
     rt: &R,
     alloc: Global,
@@ -77,7 +77,7 @@ fn gone_back<L: Ledgers, R: Wait + Abort + time::Clock>(
     text
 }
 
-/// What the two requests get.
+/// Makes the two requests of [`gone_back`], and returns what they get.
 fn two_held<L: Ledgers, R: Wait + Abort + time::Clock>(
     rt: &R,
     alloc: Global,
@@ -102,7 +102,8 @@ fn two_held<L: Ledgers, R: Wait + Abort + time::Clock>(
     text
 }
 
-/// The channel's time doesn't go back with its clock: both requests have the same time until which they are held.
+/// Events before and after which two requests are held, what they get, and the totals. The channel's time doesn't go back with its clock, so both
+/// requests have the same deadline.
 const FALLING: &str = "16999 | 17000 => Timeout Timeout 0 2 0;
 13000 16999 1000 | 17000 => Timeout Timeout 0 2 0;
 16999 | part => 1 #EXT-X-PRELOAD-HINT:TYPE=PART,URI=\"s0.1.m4s\" 1 #EXT-X-PRELOAD-HINT:TYPE=PART,URI=\"s0.1.m4s\" 1 2 0;";
@@ -116,7 +117,7 @@ fn clock_that_goes_back_keeps_the_time(rt: HostRuntime) {
     }
 }
 
-/// What a request gets that isn't waited for, and given up where it is still held.
+/// Returns what a request gets without waiting; one that is still held is closed.
 fn looked<L: Ledgers, R: Wait + time::Clock>(
     rt: &R,
     hub: &Hub<L>,
@@ -136,7 +137,7 @@ fn looked<L: Ledgers, R: Wait + time::Clock>(
     }
 }
 
-/// What the requests of two channels get where the channels from a place on are told a time; and the totals.
+/// Returns what the requests of two channels get after a reading for the channels from a place on, and the totals.
 fn partly<L: Ledgers, R: Wait + Abort + time::Clock>(
     rt: &R,
     alloc: Global,
@@ -160,7 +161,7 @@ fn partly<L: Ledgers, R: Wait + Abort + time::Clock>(
     text
 }
 
-/// The place from which on the channels are told a time, the time, and what two requests get.
+/// The first place that gets a reading, the reading in milliseconds, what two requests get, and the totals.
 const PARTLY: &str = "0 | 12000 => Timeout Timeout 0 1 0;0 1 0;
 1 | 12000 => held Timeout 0 1 0;0 1 0;
 2 | 12000 => held held 0 1 0;0 1 0;

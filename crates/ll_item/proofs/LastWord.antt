@@ -37,7 +37,7 @@ words-more (x ∷ a) b = by_test (is_space x) refl (words-more a b)
 space : (b : ℕ) → (b == 32) ≡ true → b ≡ 32
 space b h = grind (arith, nat_tests)
 
--- a text in which no space stands is one word
+-- a text without a space is one word
 one : (text : List ℕ) → ((i : ℕ) → i < length text → ¬ (get_or text i 0 ≡ 32)) → words text ≡ text ∷ []
 one text none = slice_split_none is_space text (All-from_get_or (λ b. is_space b ≡ false) text 0 (λ i l. not_true (is_space (get_or text i 0)) (λ e. none i l (space (get_or text i 0) e))))
 
@@ -82,7 +82,7 @@ told-none line h = ap told_by h
 five_words : (a b c d rest : List ℕ) → has_bytes (a ∷ b ∷ c ∷ d ∷ words rest) ≡ false
 five_words a b c d rest = let some = some_word rest in ap (λ ws. has_bytes (a ∷ b ∷ c ∷ d ∷ ws)) some.2
 
--- a part has bytes where the fourth of its words is the last one
+-- a part has bytes if its fourth word is the last
 pub part_by : (a b c last : List ℕ) (r : Option (Bor (List ℕ) × Bor (List ℕ))) (t : Bool) → MatchOption r (words last ≡ last ∷ []) (λ x. words last ≡ x.0.now ∷ words x.1.now)
     → bytes_eq a (codes "part") ≡ true → is_some r ≡ not t → t ≡ has_bytes (a ∷ b ∷ c ∷ words last)
 part_by a b c last None true m e n = sym (ap (λ ws. has_bytes (a ∷ b ∷ c ∷ ws)) m ∙ e)
@@ -93,7 +93,7 @@ part_by a b c last (Some x) false m e n = sym (ap (λ ws. has_bytes (a ∷ b ∷
 three_words : (a b rest : List ℕ) → lacks_length (a ∷ b ∷ words rest) ≡ false
 three_words a b rest = let some = some_word rest in ap (λ ws. lacks_length (a ∷ b ∷ ws)) some.2
 
--- an initialization section's length isn't told where the second of its words is the last one
+-- the line of an initialization section lacks the length if its second word is the last
 pub alone_by : (a rest : List ℕ) (r : Option (Bor (List ℕ) × Bor (List ℕ))) (t : Bool) → MatchOption r (words rest ≡ rest ∷ []) (λ x. words rest ≡ x.0.now ∷ words x.1.now)
     → bytes_eq a (codes "init") ≡ true → is_some r ≡ not t → t ≡ lacks_length (a ∷ words rest)
 alone_by a rest None true m e n = sym (ap (λ ws. lacks_length (a ∷ ws)) m ∙ e)
@@ -101,7 +101,7 @@ alone_by a rest None false m e n = absurd (cc)
 alone_by a rest (Some x) true m e n = absurd (cc)
 alone_by a rest (Some x) false m e n = sym (ap (λ ws. lacks_length (a ∷ ws)) m ∙ three_words a x.0.now x.1.now)
 
--- ---- a line again, from what was told of it
+-- ---- a line is its item line, a space and the word after it
 
 joined-last : (word : List ℕ) (ws : List (List ℕ)) (last : List ℕ) → joined (word ∷ (ws ++ last ∷ [])) ≡ joined (word ∷ ws) ++ 32 ∷ last
 joined-last word [] last = refl
@@ -144,6 +144,6 @@ told_of line (Some (item, last)) h = by_has (has_bytes (words item))
     by_has true = h
     by_has false = tt
 
--- the line, a space and the word that were told are the line
+-- the item line, a space and the word after it are the line
 pub told-line : (line : List ℕ) → IsLine line (told_bytes line)
 told-line line = told_of line (cut_last line) (cut-line line)

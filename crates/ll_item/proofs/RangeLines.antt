@@ -30,7 +30,7 @@ unrange_by : (c : Configuration) (name : List ℕ) (ws : List (List ℕ)) → (w
     → unrange_in c (name ∷ ws) ≡ unrange_at (named c name) (joined ws)
 unrange_by c name ws p = rw p.2 refl
 
--- and so is the ID of one that is taken away
+-- the ID of a removed date range is what stands after the name
 pub unrange_words : (c : Configuration) (name text : List ℕ) → unrange_in c (name ∷ words text) ≡ unrange_at (named c name) text
 unrange_words c name text = unrange_by c name (words text) (some_word text) ∙ ap (unrange_at (named c name)) (joined_words text)
 
@@ -38,7 +38,7 @@ abbrev is_quoted : AttrValue → Bool
 is_quoted (Quoted text) = true
 is_quoted (Bare text) = false
 
--- a name, an equals sign and a value begin with the key just where the name is ID and the value is quoted
+-- a name, an equals sign and a value begin with `ID="` exactly if the name is ID and the value is quoted
 begins : (name : List ℕ) (value : AttrValue) (rest : List ℕ) → is_attribute_name name ≡ true → is_formed value ≡ true
     → starts_with nat_eq (name ++ (61 ∷ (value_spelling value ++ rest))) (codes "ID=\"") ≡ (bytes_eq name (codes "ID") && is_quoted value)
 begins [] value rest n f = grind (arith, nat_tests)
@@ -72,7 +72,7 @@ no_front : {X : Type 0} (text : List ℕ) → [] ≡ text → starts_with nat_eq
 no_front [] e h = cc
 no_front (b ∷ bs) e h = cc
 
--- what a list's text begins with tells whether the list begins with a quoted ID
+-- a list begins with a quoted ID exactly if its text begins with `ID="`
 by_list : (r : ℕ) (text : List ℕ) (list : Result (List Attribute) AttrFault) → attributes_in text ≡ list → IsOk list
     → (starts_with nat_eq text (codes "ID=\"") ≡ true → IsOk (range_of r list)) × (starts_with nat_eq text (codes "ID=\"") ≡ false → range_of r list ≡ Err BadAttribute)
 by_list r text (Err fault) e ok = cc

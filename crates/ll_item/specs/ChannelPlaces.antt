@@ -1,4 +1,4 @@
--- For private contracts: how the names of channels are kept.
+-- For private contracts: the map of the names of channels to their places.
 use Rattle.std.specs.Prelude.{◌≡◌, ℕ, List, Option, String, bytes_eq, option_map, string_bytes}
 use Rattle.std.specs.declared.alloc.Global.{Global}
 use Rattle.std.specs.Map.{lookup}

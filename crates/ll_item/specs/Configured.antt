@@ -1,4 +1,4 @@
--- A configuration from the parts that it is kept in.
+-- A configuration from the fields that the code keeps.
 use Rattle.std.specs.Prelude.{ℕ, List}
 use Rattle.ll_item.specs.Settings.{Configuration}
 use Rattle.ll_item.specs.declared.settings.Numbers.{Numbers}

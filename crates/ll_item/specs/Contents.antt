@@ -1,4 +1,4 @@
--- For private contracts: the bytes of items, as they are offered and kept.
+-- For private contracts: the bytes of items, as they are read and as they are kept.
 use Rattle.std.specs.Prelude.{ℕ, List}
 use Rattle.ll_item.specs.Media.{zeros}
 use Rattle.ll_item.specs.declared.media.Kept.{Kept}

@@ -11,11 +11,11 @@ use Rattle.ll_item.specs.declared.item.Item.TheVariants.{Part, Init, Finish, Bre
 use Rattle.ll_item.specs.declared.item_text.ItemLine.{ItemLine}
 use Rattle.ll_item.specs.declared.item_text.ItemLine.TheVariants as line
 
--- the name of the rendition of this index, empty if there is none
+-- the name of the rendition with this index, empty if there is none
 abbrev pub name_of : Configuration → ℕ → List ℕ
 name_of c rendition = slice_index_or c.renditions rendition []
 
--- the attributes of a date range: its id, quoted, stands before the others
+-- the attributes of a date range: its id, quoted, before the others
 abbrev pub with_id : List ℕ → List Attribute → List Attribute
 with_id id attributes = record { name = codes "ID"; value = Quoted id } ∷ attributes
 
@@ -55,7 +55,7 @@ abbrev pub after_comma : List ℕ → List ℕ
 after_comma [] = []
 after_comma (b ∷ bs) = 44 ∷ b ∷ bs
 
--- the list of a date range: its id, quoted, and the text of its other attributes
+-- the attribute list of a date range: its id, quoted, before the text of its other attributes
 abbrev pub list_text : List ℕ → List ℕ → List ℕ
 list_text id others = codes "ID=\"" ++ (id ++ (codes "\"" ++ after_comma others))
 
@@ -63,7 +63,7 @@ abbrev pub break_text : List ℕ → Option ℕ → List ℕ
 break_text name None = break_line name
 break_text name (Some ms) = timed_break_line name ms
 
--- a line that names its rendition
+-- an item line that has the name of its rendition in place of an index
 abbrev pub line_text : ItemLine → List ℕ
 line_text (line.Part rendition duration independent finish) = part_line rendition.now duration (flags_text independent finish)
 line_text (line.Init rendition) = init_line rendition.now
@@ -73,7 +73,7 @@ line_text (line.End rendition) = end_line rendition.now
 line_text (line.Range rendition id attributes) = range_line rendition.now (list_text id.now attributes.now)
 line_text (line.Unrange rendition id) = unrange_line rendition.now id.now
 
--- the line that spells an item, without the number of its bytes
+-- the item line that spells an item, without the number of its bytes
 abbrev pub item_line : Configuration → Item → List ℕ
 item_line c (Part part) = part_line (name_of c part.rendition) part.duration (flags_text part.independent part.finish)
 item_line c (Init rendition media) = init_line (name_of c rendition)
@@ -83,11 +83,11 @@ item_line c (End rendition) = end_line (name_of c rendition)
 item_line c (Range rendition id attributes) = range_line (name_of c rendition) (spelling (with_id id attributes))
 item_line c (Unrange rendition id) = unrange_line (name_of c rendition) id
 
--- a line and the number of an item's bytes
+-- an item line, and after it the number of the item's bytes
 abbrev pub counted_line : List ℕ → ℕ → List ℕ
 counted_line line n = line ++ (codes " " ++ decimal n)
 
--- the line that announces an item: the number of its bytes stands after that of a part and of an initialization section
+-- the line that announces an item: that of a part or an initialization section ends with the number of its bytes
 abbrev pub published_line : Configuration → Item → List ℕ
 published_line c (Part part) = counted_line (item_line c (Part part)) (length part.media)
 published_line c (Init rendition media) = counted_line (item_line c (Init rendition media)) (length media)
@@ -97,7 +97,7 @@ published_line c (End rendition) = item_line c (End rendition)
 published_line c (Range rendition id attributes) = item_line c (Range rendition id attributes)
 published_line c (Unrange rendition id) = item_line c (Unrange rendition id)
 
--- what the type of attribute lists keeps of an item: some attributes are always such as a text spells
+-- the invariant of an item's attribute list: a list that isn't empty is parsed again from its spelling
 abbrev pub HasAttributes : Item → Type 0
 HasAttributes (Range rendition id attributes) = attributes ≢ [] → attributes_in (spelling attributes) ≡ Ok attributes
 HasAttributes (Unrange rendition id) = Unit
@@ -107,6 +107,6 @@ HasAttributes (Finish rendition) = Unit
 HasAttributes (Break rendition time) = Unit
 HasAttributes (End rendition) = Unit
 
--- what the types of its fields keep of an item: also no more bytes than an item may have
+-- the invariants of an item's fields: that of its attribute list, and no more bytes than are allowed
 abbrev pub IsTyped : Item → Type 0
 IsTyped item = HasAttributes item × (length (media_of item) ≤ media_limit)

@@ -1,4 +1,4 @@
--- What a publisher announces, and the lines that spell it.
+-- The items that a publisher announces, and the lines that spell them.
 use Rattle.std.specs.Prelude.{ℕ, List, [], ◌∷◌, Bool, true, false, Option, Some, None, Result, Ok, Err, if◌then◌else◌, ◌==◌, nat_le, option_and_then, length, position, bytes_eq, codes}
 use Rattle.ll_attr.specs.Numbers.{number_in}
 use Rattle.ll_attr.specs.Words.{words, joined}
@@ -35,7 +35,7 @@ media_of (End rendition) = []
 media_of (Range rendition id attributes) = []
 media_of (Unrange rendition id) = []
 
--- the item with zeros in place of its bytes: what is known of it where only their number is
+-- the item with zeros in place of its bytes: what is known of it if only their number is
 abbrev pub blank : Item → Item
 blank (Part part) = Part (record part { media = zeros (length part.media) })
 blank (Init rendition media) = Init rendition (zeros (length media))
@@ -45,7 +45,7 @@ blank (End rendition) = End rendition
 blank (Range rendition id attributes) = Range rendition id attributes
 blank (Unrange rendition id) = Unrange rendition id
 
--- whether an item adds a date range or takes one away
+-- whether an item adds a date range or removes one
 abbrev pub is_about_ranges : Item → Bool
 is_about_ranges (Part part) = false
 is_about_ranges (Init rendition media) = false
@@ -55,7 +55,7 @@ is_about_ranges (End rendition) = false
 is_about_ranges (Range rendition id attributes) = true
 is_about_ranges (Unrange rendition id) = true
 
--- the index of the rendition of this name
+-- the index of the rendition with this name
 abbrev pub rendition_named : Configuration → List ℕ → Option ℕ
 rendition_named c name = position (bytes_eq name) c.renditions
 
@@ -79,7 +79,7 @@ abbrev pub named_at : Option ℕ → Result ℕ ItemFault
 named_at None = Err NoRendition
 named_at (Some rendition) = Ok rendition
 
--- the index of the rendition of this name, or what is wrong with the name
+-- the index of the rendition with this name, or the fault of the name
 abbrev pub named : Configuration → List ℕ → Result ℕ ItemFault
 named c name = if is_name name then named_at (rendition_named c name) else Err BadLine
 
@@ -119,7 +119,7 @@ break_at (Ok rendition) time = Ok (Break rendition time)
 abbrev pub last_milli : ℕ
 last_milli = 253402300799999
 
--- whether a zero stands before another digit
+-- whether a text begins with a zero and has more than one character
 abbrev pub leads_with_zero : List ℕ → Bool
 leads_with_zero [] = false
 leads_with_zero (first ∷ []) = false
@@ -145,12 +145,12 @@ abbrev pub end_at : Result ℕ ItemFault → Result Item ItemFault
 end_at (Err fault) = Err fault
 end_at (Ok rendition) = Ok (End rendition)
 
--- a date range whose list has this first attribute
+-- the date range whose attribute list begins with this name and value
 abbrev pub range_with : ℕ → List ℕ → AttrValue → List Attribute → Result Item ItemFault
 range_with rendition name (Quoted id) attributes = if bytes_eq name (codes "ID") then Ok (Range rendition id attributes) else Err BadAttribute
 range_with rendition name (Bare text) attributes = Err BadAttribute
 
--- the date range that an attribute list tells of: its first attribute is ID, quoted (section 4.4.5.1)
+-- the date range that an attribute list spells: its first attribute is ID, quoted (section 4.4.5.1)
 abbrev pub range_of : ℕ → Result (List Attribute) AttrFault → Result Item ItemFault
 range_of rendition (Err fault) = Err BadAttribute
 range_of rendition (Ok []) = Err BadAttribute
@@ -160,7 +160,7 @@ abbrev pub range_at : Result ℕ ItemFault → List ℕ → Result Item ItemFaul
 range_at (Err fault) list = Err fault
 range_at (Ok rendition) list = range_of rendition (attributes_in list)
 
--- `RENDITION LIST`, where the list is the rest of the line
+-- `RENDITION LIST`; the list is the rest of the line
 abbrev pub range_in : Configuration → List (List ℕ) → Result Item ItemFault
 range_in c (name ∷ first ∷ more) = range_at (named c name) (joined (first ∷ more))
 range_in c other = Err BadLine
@@ -169,12 +169,13 @@ abbrev pub unrange_at : Result ℕ ItemFault → List ℕ → Result Item ItemFa
 unrange_at (Err fault) id = Err fault
 unrange_at (Ok rendition) id = Ok (Unrange rendition id)
 
--- `RENDITION ID`, where the id is the rest of the line
+-- `RENDITION ID`; the id is the rest of the line
 abbrev pub unrange_in : Configuration → List (List ℕ) → Result Item ItemFault
 unrange_in c (name ∷ first ∷ more) = unrange_at (named c name) (joined (first ∷ more))
 unrange_in c other = Err BadLine
 
--- `break RENDITION`, `break RENDITION MILLISECONDS`, `finish RENDITION`, `range RENDITION LIST`, `unrange RENDITION ID` or `end RENDITION`: these have no bytes
+-- the items without bytes: `break RENDITION`, `break RENDITION MILLISECONDS`, `finish RENDITION`, `range RENDITION LIST`, `unrange RENDITION ID` or
+-- `end RENDITION`
 abbrev pub bare_of : Configuration → List ℕ → List (List ℕ) → Result Item ItemFault
 bare_of c kind rest =
     if bytes_eq kind (codes "break") then break_in c rest
@@ -193,6 +194,6 @@ item_of c (kind ∷ rest) media =
     else if length media == 0 then bare_of c kind rest
     else Err BadLine
 
--- the item that a line spells which has these bytes, or what is wrong with it
+-- the item that a line spells and that has these bytes, or the fault of the line
 abbrev pub item_in : Configuration → List ℕ → List ℕ → Result Item ItemFault
 item_in c line media = item_of c (words line) media

@@ -1,4 +1,4 @@
--- Whether settings are the same, name by name and number by number.
+-- The equality of settings, name by name and number by number.
 use Rattle.std.specs.Prelude.{ℕ, List, [], ◌∷◌, Bool, bytes_eq}
 use Rattle.std.specs.Cmp.Lexicographic.{pointwise}
 use Rattle.ll_item.specs.Settings.{Configuration}

@@ -1,4 +1,4 @@
--- What a channel is configured to, its limits, and the line that spells it.
+-- The settings of a channel, their limits, and the line that spells them.
 use Rattle.std.specs.Prelude.{◌≡◌, ◌≤◌, ℕ, ◌+◌, ◌*◌, ◌^◌, List, [], ◌∷◌, true, not, ◌&&◌, ◌||◌, ◌==◌, Option, Some, None, Result, Ok, Err, if◌then◌else◌, length, drop, nat_eq, nat_lt, bytes_eq, codes, option_and_then}
 use Rattle.std.specs.List.{starts_with}
 use Rattle.ll_attr.specs.Numbers.{number_in}
@@ -19,21 +19,20 @@ pub record Configuration : Type 0 where
   -- seconds
   pub window : ℕ
   pub renditions : List (List ℕ)
-  -- the media sequence number of the first segment
+  -- the Media Sequence Number of the first segment
   pub first : ℕ
   -- milliseconds since 1970-01-01T00:00:00Z
   pub start : ℕ
 
--- the largest media sequence number
+-- the largest Media Sequence Number
 abbrev pub number_end : ℕ
 number_end = 2 ^ 60
 
--- how long the segments and parts after a segment last at most while it stays in delta updates, in microseconds
--- (section 4.4.3.8)
+-- the Skip Boundary in microseconds (section 4.4.3.8) (rule 20)
 abbrev pub skip_limit : Configuration → ℕ
 skip_limit c = c.skip * 1000000
 
--- the first limit that a configuration breaks, or none
+-- the first limit that a configuration breaks
 abbrev pub limit_broken : Configuration → Option SettingsFault
 limit_broken c =
     if nat_lt c.target 1 || nat_lt 60 c.target then Some BadTarget
@@ -53,7 +52,7 @@ pub record IsWithin (c : Configuration) : Type 0 where
   pub part_target_high : c.part_target ≤ c.target * 1000000
   -- section 4.4.3.8
   pub skip_low : 6 * c.target ≤ c.skip
-  -- three target durations stand after what may be skipped
+  -- the Skip Boundary and three target durations
   pub window_low : c.skip + 3 * c.target ≤ c.window
   pub window_high : c.window ≤ 86400
   pub channel_named : is_name c.channel ≡ true
@@ -66,7 +65,7 @@ pub record IsWithin (c : Configuration) : Type 0 where
   -- the last millisecond of the year 9999
   pub start_high : c.start ≤ 253402300799999
 
--- a configuration breaks no limit exactly when each of them holds
+-- a configuration breaks no limit exactly if each of these facts holds
 abbrev pub LimitsLaw : Type 0
 LimitsLaw = (c : Configuration) → (limit_broken c ≡ None → IsWithin c) × (IsWithin c → limit_broken c ≡ None)
 
@@ -78,15 +77,15 @@ unless_broken (Some fault) c = Err fault
 abbrev pub settings_of : Configuration → Result Configuration SettingsFault
 settings_of c = unless_broken (limit_broken c) c
 
--- what stands after a key and its equals sign, where the word begins with them
+-- what follows a key and its equals sign; none if the word doesn't begin with them
 abbrev pub value_of : List ℕ → List ℕ → Option (List ℕ)
 value_of key word = if starts_with nat_eq word key then Some (drop (length key) word) else None
 
--- the number below 2^64 of 1 to 20 digits after a key
+-- the number after a key: 1 to 20 digits, below 2^64
 abbrev pub number_of : List ℕ → List ℕ → Option ℕ
 number_of key word = option_and_then (number_in 20) (value_of key word)
 
--- names are joined by commas
+-- the texts between the commas of a text
 abbrev pub names_in : List ℕ → List (List ℕ)
 names_in text = pieces_at 44 text
 
@@ -112,6 +111,6 @@ abbrev pub settings_by : Option Configuration → Result Configuration SettingsF
 settings_by None = Err BadLine
 settings_by (Some c) = settings_of c
 
--- the settings that a line spells, or what is wrong with it
+-- the settings that a line spells, or the fault of the line
 abbrev pub settings_in : List ℕ → Result Configuration SettingsFault
 settings_in line = settings_by (configuration_of (words line))

@@ -1,4 +1,4 @@
--- What the items of one rendition tell, one after another.
+-- The state of a rendition after its items, applied one after another.
 use Rattle.std.specs.Prelude.{ℕ, Option, Some, None, ◌+◌, List, [], ◌∷◌, ◌++◌, Bool, true, false, not, fold, filter, bytes_eq}
 use Rattle.ll_attr.specs.Attributes.{spelling}
 use Rattle.ll_item.specs.declared.item.Item.{Item}
@@ -14,7 +14,7 @@ pub record Listed : Type 0 where
   -- how long all parts before it last, in microseconds
   pub added : ℕ
 
--- a date range that was taken away (section 4.4.5.2)
+-- a date range that was removed (section 4.4.5.2)
 pub record Removal : Type 0 where
   pub id : List ℕ
   -- how long all parts before its removal last, in microseconds
@@ -22,28 +22,28 @@ pub record Removal : Type 0 where
 
 pub record Told : Type 0 where
   pub parts : List Part
-  -- whether a break stands after the last part
+  -- whether a break came after the last part
   pub pending : Bool
-  -- the time that the last timed break after the last part sets, where there is one: milliseconds
+  -- the time that the last timed break after the last part set, if there is one: milliseconds since 1970-01-01T00:00:00Z (rule 13)
   pub restart : Option ℕ
   -- whether the rendition has ended (section 4.4.3.4)
   pub ended : Bool
   -- how long all parts last, in microseconds
   pub end_time : ℕ
-  -- the date ranges that are listed, in order of adding
+  -- the date ranges that are listed, in order of adding (rule 17)
   pub listed : List Listed
   -- the last removal of each id, in order of removal
   pub removals : List Removal
 
--- the date ranges of all other ids
+-- the date ranges with other ids
 abbrev pub others : List ℕ → List Listed → List Listed
 others id ranges = filter (λ (range : Listed). not (bytes_eq id range.id)) ranges
 
--- the removals of all other ids
+-- the removals with other ids
 abbrev pub other_removals : List ℕ → List Removal → List Removal
 other_removals id removals = filter (λ (removal : Removal). not (bytes_eq id removal.id)) removals
 
--- a part as its rendition keeps it: whether a break stands before it, and the time that one sets
+-- a part as its rendition keeps it: with whether a break came right before it, and the time that such a break set, if one did (rule 19)
 abbrev pub kept_part : Bool → Option ℕ → PartItem → Part
 kept_part after_break restart part = record {
   duration = part.duration;
@@ -53,7 +53,7 @@ kept_part after_break restart part = record {
   restart = restart;
 }
 
--- the last of these parts finishes its segment
+-- the same parts, of which the last finishes its segment (rules 3 and 5)
 abbrev pub finished_last : List Part → List Part
 finished_last [] = []
 finished_last (p ∷ []) = (record p { finish = true }) ∷ []
@@ -63,11 +63,11 @@ abbrev pub first_of : Option ℕ → Option ℕ → Option ℕ
 first_of (Some ms) before = Some ms
 first_of None before = before
 
--- before the first item
+-- the state before the first item
 abbrev pub start : Told
 start = record { parts = []; pending = false; restart = None; ended = false; end_time = 0; listed = []; removals = [] }
 
--- one more item
+-- the state after one more item
 abbrev pub step : Told → Item → Told
 step t (item.Part part) = record t {
   parts = t.parts ++ kept_part t.pending t.restart part ∷ [];
@@ -85,7 +85,7 @@ step t (item.Unrange rendition id) = record t {
   removals = other_removals id t.removals ++ (record { id = id; removed = t.end_time }) ∷ [];
 }
 
--- of all items of one rendition
+-- the state after all items of one rendition
 abbrev pub told : List Item → Told
 told items = fold step start items
 

@@ -1,4 +1,4 @@
-//! Channels, each found by its name.
+//! Settings of channels, found by name.
 ghost use Rattle.std.specs.Prelude.{◌≡◌, ◌++◌, ◌∷◌, [], ℕ, List, None, Some, MatchOption, OnErr, OnOk, if◌then◌else◌, bytes_eq, length, slice_get, string_bytes};
 ghost use Rattle.std.specs.Option.{option_or};
 ghost use Rattle.ll_item.specs.Channels.{channel_of_name};
@@ -9,7 +9,7 @@ use indexmap::IndexMap;
 use std::alloc::{AllocError, Global};
 use std::marker::Model;
 
-/// The settings of channels in the order in which they were added, and the place of each name's first.
+/// The settings of channels in the order in which they were added, with an index by name.
 #[derive(Drop)]
 pub struct Channels {
     all: Vec<Settings>,
@@ -29,7 +29,7 @@ impl Model for Channels {
 }
 
 impl Channels {
-    /// No channels.
+    /// Returns no channels.
     pub fn new(alloc: Global) -> Channels
         ensures { result ≡ [] }
     {
@@ -39,14 +39,14 @@ impl Channels {
         }
     }
 
-    /// How many channels there are.
+    /// Returns the number of channels.
     pub fn len(&self) -> usize
         ensures { result ≡ length self.now }
     {
         self.all.len()
     }
 
-    /// The place of the first channel of this name, and its settings.
+    /// Returns the place of the first channel called `name`, and its settings. Places count from 0.
     pub fn find(&self, name: &str) -> Option<(usize, &Settings)>
         ensures { MatchOption result (channel_of_name self.now 0 name.now ≡ None)
             (λ f. channel_of_name self.now 0 name.now ≡ Some (f.0, f.1.now)) }
@@ -56,14 +56,14 @@ impl Channels {
         Some((place, settings))
     }
 
-    /// The settings of the channel at this place.
+    /// Returns the settings of the channel at place `at`, if there is one.
     pub fn get(&self, at: usize) -> Option<&Settings>
         ensures { MatchOption result (slice_get self.now at ≡ None) (λ s. slice_get self.now at ≡ Some s.now) }
     {
         self.all.get(at)
     }
 
-    /// Adds a channel. Where its name stands already, that name still finds the first.
+    /// Adds a channel at the end. If its name is taken, that name still finds the earlier channel.
     pub fn add(&mut self, alloc: Global, settings: Settings) -> Result<(), AllocError>
         ensures added { OnOk result (self.new ≡ self.old ++ settings ∷ []) }
         ensures unchanged { OnErr result (self.new ≡ self.old) }
@@ -76,7 +76,7 @@ impl Channels {
     }
 }
 
-/// Keeps the place of a name, unless the name has one.
+/// Adds `name` with `place`, unless the name has a place.
 fn add_name(
     places: &mut IndexMap<String, usize>,
     name: String,

@@ -1,4 +1,4 @@
-//! What a publisher announces.
+//! The items that a publisher announces.
 ghost use Rattle.std.specs.Prelude.{◌≡◌, IfOk};
 ghost use Rattle.ll_item.specs.Items.{is_about_ranges, rendition_of};
 
@@ -7,7 +7,7 @@ use ll_attr::{AttrList, Text};
 use std::alloc::AllocError;
 use thiserror::Error;
 
-/// What a publisher announces.
+/// An item that a publisher announces.
 #[derive(Drop)]
 pub enum Item {
     /// The next Partial Segment of a rendition (EXT-X-PART, section 4.4.4.9).
@@ -15,44 +15,43 @@ pub enum Item {
     /// The Media Initialization Section of the segment that the next part belongs to, and of those after it until the next break
     /// (EXT-X-MAP, section 4.4.4.5).
     Init {
-        /// The rendition's index in the order of the settings.
+        /// The index of the rendition in the settings.
         rendition: usize,
-        /// Its bytes.
+        /// The bytes of the section.
         media: Media,
     },
-    /// The open segment ends with the part that was announced last.
+    /// The end of the open segment with the part that was announced last.
     Finish {
-        /// The rendition's index in the order of the settings.
+        /// The index of the rendition in the settings.
         rendition: usize,
     },
-    /// What follows is encoded otherwise than what came before: the next segment is broken from the last one
-    /// (EXT-X-DISCONTINUITY, section 4.4.4.3).
+    /// A discontinuity between the last segment and the next one (EXT-X-DISCONTINUITY, section 4.4.4.3).
     Break {
-        /// The rendition's index in the order of the settings.
+        /// The index of the rendition in the settings.
         rendition: usize,
-        /// When the next segment begins, if the break sets that: milliseconds since 1970-01-01T00:00:00Z (EXT-X-PROGRAM-DATE-TIME,
+        /// The time at which the next segment begins, if the break sets one: milliseconds since 1970-01-01T00:00:00Z (EXT-X-PROGRAM-DATE-TIME,
         /// section 4.4.4.6).
         time: Option<u64>,
     },
-    /// The rendition has no more parts (EXT-X-ENDLIST, section 4.4.3.4). It finishes an open segment.
+    /// The end of the rendition (EXT-X-ENDLIST, section 4.4.3.4). It finishes an open segment.
     End {
-        /// The rendition's index in the order of the settings.
+        /// The index of the rendition in the settings.
         rendition: usize,
     },
-    /// A date range, which playlists list from here on (EXT-X-DATERANGE, section 4.4.5.1).
+    /// A date range that playlists list from now on (EXT-X-DATERANGE, section 4.4.5.1).
     Range {
-        /// The rendition's index in the order of the settings.
+        /// The index of the rendition in the settings.
         rendition: usize,
-        /// What names the date range among those of its rendition (ID).
+        /// The date range's ID, which no other one that is listed has.
         id: Text,
-        /// Its other attributes, in the order in which they are listed.
+        /// The other attributes of the date range, in the order in which playlists have them.
         attributes: AttrList,
     },
-    /// Playlists list a date range no longer.
+    /// The removal of a date range, which playlists list no longer.
     Unrange {
-        /// The rendition's index in the order of the settings.
+        /// The index of the rendition in the settings.
         rendition: usize,
-        /// What names the date range (ID).
+        /// The date range's ID.
         id: Text,
     },
 }
@@ -60,20 +59,20 @@ pub enum Item {
 /// A Partial Segment as it is announced (EXT-X-PART, section 4.4.4.9).
 #[derive(Drop)]
 pub struct PartItem {
-    /// The rendition's index in the order of the settings.
+    /// The index of the rendition in the settings.
     pub rendition: usize,
-    /// Microseconds (DURATION).
+    /// The duration in microseconds (DURATION).
     pub duration: u64,
-    /// Whether it can be played without a part before it (INDEPENDENT).
+    /// Whether the part can be played without one before it (INDEPENDENT).
     pub independent: bool,
-    /// Whether it is the last part of its segment.
+    /// Whether the part is the last of its segment.
     pub finish: bool,
-    /// Its bytes.
+    /// The bytes of the part.
     pub media: Media,
 }
 
 impl PartItem {
-    /// Returns a part equal to this one, which shares its bytes.
+    /// Copies the part. The copy shares its bytes.
     pub fn copy(&self) -> Result<PartItem, AllocError>
         ensures { IfOk result (λ part. part ≡ self.now) }
     {
@@ -90,16 +89,16 @@ impl PartItem {
 /// Why a line is no item.
 #[derive(Clone, Copy, Debug, PartialEq, Eq, Error)]
 pub enum ItemFault {
-    /// The line isn't of an item's form.
+    /// The line has the form of no item.
     #[error("BadLine")]
     BadLine,
-    /// The name is none of the channel's renditions.
+    /// The channel has no rendition of that name.
     #[error("NoRendition")]
     NoRendition,
-    /// A date range's list can't be read as one, or doesn't begin with a quoted ID.
+    /// The list of a date range can't be parsed, or doesn't begin with a quoted ID.
     #[error("BadAttribute")]
     BadAttribute,
-    /// No memory was found.
+    /// Out of memory.
     #[error("Memory")]
     Memory,
 }
@@ -115,7 +114,7 @@ impl From<AllocError> for ItemFault {
 }
 
 impl Item {
-    /// The index of the rendition that it belongs to, in the order of the settings.
+    /// Returns the index of the item's rendition in the settings.
     pub fn rendition(&self) -> usize
         ensures { result ≡ rendition_of self.now }
     {
@@ -130,14 +129,14 @@ impl Item {
         }
     }
 
-    /// Whether it adds a date range or takes one away.
+    /// Returns whether the item adds a date range or removes one.
     pub fn is_about_ranges(&self) -> bool
         ensures { result ≡ is_about_ranges self.now }
     {
         matches!(self, Item::Range { .. } | Item::Unrange { .. })
     }
 
-    /// An item equal to this one, or an error where no memory was found.
+    /// Copies the item. The copy shares its bytes.
     pub fn copy(&self) -> Result<Item, AllocError>
         ensures { IfOk result (λ item. item ≡ self.now) }
     {

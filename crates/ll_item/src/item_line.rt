@@ -1,4 +1,4 @@
-//! The lines that spell items.
+//! Parsing of item lines.
 ghost use Rattle.std.specs.Prelude.{◌≡◌, ◌≢◌, ◌∷◌, [], ℕ, List, MatchOption, IfOk, IfErr, IsOk, IsErrOf, Ok, Err};
 ghost use Rattle.ll_attr.specs.Attributes.{attributes_in};
 ghost use Rattle.ll_attr.specs.Words.{words};
@@ -13,11 +13,11 @@ use crate::words::one_word;
 use ll_attr::{AttrFault, AttrList, AttrValue, Attribute, Text, after, cut, parse_number};
 use std::alloc::Global;
 
-/// The last millisecond of the year 9999, from 1970 on.
+/// The last millisecond of the year 9999, counted from 1970-01-01T00:00:00Z.
 const LAST_MILLI: u64 = 253_402_300_799_999;
 
 impl Item {
-    /// Reads the item that `line` spells and that has the bytes of `payload`. The line is one of
+    /// Parses the item that `line` spells and that has the bytes of `payload`. The line is one of
     ///
     /// - `part RENDITION MICROSECONDS FLAGS`; the flags are `-` for none, `i` for independent, `f` for finishing its segment, or `if`;
     /// - `init RENDITION`;
@@ -29,8 +29,8 @@ impl Item {
     ///
     /// # Errors
     ///
-    /// `BadLine` if the line has none of these forms, or one of those without bytes although there are some; `NoRendition` if the channel
-    /// has no rendition of that name; `BadAttribute` if the list is no such list; and, if none of these, `Memory`.
+    /// `BadLine` if the line has none of these forms, or `payload` isn't empty and the form is neither `part` nor `init`; else `NoRendition` if
+    /// the channel has no rendition of that name; else `BadAttribute` if the list is no such list; else `Memory`.
     pub fn read(
         alloc: Global,
         settings: &Settings,
@@ -56,7 +56,7 @@ impl Item {
     }
 }
 
-/// The item of this kind, which has no bytes.
+/// Parses an item without bytes, whose line is `kind`, a space and `rest`.
 fn read_bare(alloc: Global, settings: &Settings, kind: &str, rest: &str) -> Result<Item, ItemFault>
     ensures value { IfOk result (λ item. spec.bare_of settings.now kind.now (words rest.now) ≡ Ok item) }
     ensures refused { IfErr result (λ fault. fault ≢ ItemFault.Memory → spec.bare_of settings.now kind.now (words rest.now) ≡ Err fault) }
@@ -79,7 +79,7 @@ fn read_bare(alloc: Global, settings: &Settings, kind: &str, rest: &str) -> Resu
     }
 }
 
-/// Reads a break of the rendition that the first word of `text` names; a second word is its time.
+/// Parses a break of the rendition that the first word of `text` names; a second word is its time.
 fn read_break(settings: &Settings, text: &str) -> Result<Item, ItemFault>
     ensures value { result ≡ spec.break_in settings.now (words text.now) }
     ensures not_memory { IfErr result (λ fault. fault ≢ ItemFault.Memory) }
@@ -104,7 +104,7 @@ fn read_break(settings: &Settings, text: &str) -> Result<Item, ItemFault>
     })
 }
 
-/// Reads the time of a break, in milliseconds.
+/// Parses the time of a break: milliseconds up to the end of the year 9999, in 1 to 15 digits without leading zeros.
 fn break_time(text: &str) -> Option<u64>
     ensures { result ≡ spec.time_in text.now }
 {
@@ -117,14 +117,14 @@ fn break_time(text: &str) -> Option<u64>
     }
 }
 
-/// Returns whether a zero stands before another digit.
+/// Returns whether `text` begins with a zero and has more than one character.
 fn leads_with_zero(text: &str) -> bool
     ensures { result ≡ spec.leads_with_zero text.now }
 {
     matches!(text.as_bytes(), [b'0', _, ..])
 }
 
-/// The part whose rendition, duration and flags are the words of this text.
+/// Parses a part. The words of `text` are its rendition, duration and flags.
 fn read_part(
     alloc: Global,
     settings: &Settings,
@@ -154,7 +154,7 @@ fn read_part(
     }))
 }
 
-/// The initialization section whose rendition's name is this text.
+/// Parses an initialization section of the rendition called `text`.
 fn read_init(
     alloc: Global,
     settings: &Settings,
@@ -172,7 +172,7 @@ fn read_init(
     })
 }
 
-/// The rendition's name, the duration and the flags of a part, where there are three words.
+/// Splits `text` into the rendition's name, the duration and the flags of a part. Returns `None` if it isn't three words.
 fn part_words(text: &str) -> Option<(&str, &str, &str)>
     ensures { (c : Configuration) (media : List ℕ) → MatchOption result (part_in c (words text.now) media ≡ Err ItemFault.BadLine)
         (λ w. words text.now ≡ w.0.now ∷ w.1.now ∷ w.2.now ∷ []) }
@@ -182,7 +182,7 @@ fn part_words(text: &str) -> Option<(&str, &str, &str)>
     Some((name, duration, one_word(rest)?))
 }
 
-/// Whether a part is independent, and whether it finishes its segment.
+/// Parses the flags of a part: whether it is independent, and whether it finishes its segment.
 fn part_flags(text: &str) -> Option<(bool, bool)>
     ensures { result ≡ flags_in text.now }
 {
@@ -199,7 +199,7 @@ fn part_flags(text: &str) -> Option<(bool, bool)>
     }
 }
 
-/// The date range of the rendition whose name is the first word of this text, with the list that is the rest of it.
+/// Parses a date range. `text` is the rendition's name, a space and an attribute list.
 #[tactic(auto, using(crate::proofs::RangeLines::range_words))]
 fn read_range(alloc: Global, settings: &Settings, text: &str) -> Result<Item, ItemFault>
     ensures value { IfOk result (λ item. range_in settings.now (words text.now) ≡ Ok item) }
@@ -213,7 +213,7 @@ fn read_range(alloc: Global, settings: &Settings, text: &str) -> Result<Item, It
     range_from(alloc, rendition, list)
 }
 
-/// The date range that a text tells of, as an attribute list.
+/// Parses a date range of `rendition`, which `text` spells as an attribute list.
 #[tactic(auto, using(crate::proofs::RangeLines::begins_otherwise))]
 fn range_from(alloc: Global, rendition: usize, text: &str) -> Result<Item, ItemFault>
     ensures value { IfOk result (λ item. spec.range_of rendition (attributes_in text.now) ≡ Ok item) }
@@ -222,7 +222,7 @@ fn range_from(alloc: Global, rendition: usize, text: &str) -> Result<Item, ItemF
 {
     match AttrList::parse(alloc, text) {
         Ok(list) => range_of(rendition, list),
-        // The text is a list, and its first bytes tell whether it begins with a quoted ID.
+        // Memory ran out in a well-formed list: its first bytes show whether it begins with a quoted ID.
         Err(AttrFault::Memory) => match after(text, "ID=\"") {
             Some(_) => Err(ItemFault::Memory),
             None => Err(ItemFault::BadAttribute),
@@ -231,7 +231,7 @@ fn range_from(alloc: Global, rendition: usize, text: &str) -> Result<Item, ItemF
     }
 }
 
-/// The date range that a list tells of.
+/// Makes a date range of `list`, whose first attribute has to be a quoted ID.
 fn range_of(rendition: usize, list: AttrList) -> Result<Item, ItemFault>
     ensures { result ≡ spec.range_of rendition (Ok list) }
 {
@@ -252,7 +252,7 @@ fn range_of(rendition: usize, list: AttrList) -> Result<Item, ItemFault>
     }
 }
 
-/// What takes away a date range of the rendition whose name is the first word of this text; the rest of it is the ID.
+/// Parses the removal of a date range. `text` is the rendition's name, a space and the ID.
 #[tactic(auto, using(crate::proofs::RangeLines::unrange_words))]
 fn read_unrange(alloc: Global, settings: &Settings, text: &str) -> Result<Item, ItemFault>
     ensures value { IfOk result (λ item. unrange_in settings.now (words text.now) ≡ Ok item) }
@@ -267,7 +267,7 @@ fn read_unrange(alloc: Global, settings: &Settings, text: &str) -> Result<Item, 
     Ok(Item::Unrange { rendition, id })
 }
 
-/// The index of the rendition whose name this text is, or what is wrong with it.
+/// Parses a text that is the name of a rendition, and returns its index.
 fn read_alone(settings: &Settings, text: &str) -> Result<usize, ItemFault>
     ensures value { result ≡ alone_in settings.now (words text.now) }
     ensures not_memory { IfErr result (λ fault. fault ≢ ItemFault.Memory) }

@@ -1,4 +1,4 @@
-//! How items are spelled on a line.
+//! Writing of item lines.
 ghost use Rattle.std.specs.Prelude.{◌≡◌, ◌≢◌, ◌++◌, [], Ok, OnOk, Some, string_bytes};
 ghost use Rattle.ll_attr.specs.Attributes.{attributes_in, spelling};
 ghost use Rattle.ll_item.specs.Items.{flags_text};
@@ -18,11 +18,11 @@ pub enum ItemLine<'a> {
     Part {
         /// The rendition's name.
         rendition: &'a str,
-        /// Microseconds.
+        /// The duration in microseconds.
         duration: u64,
-        /// Whether it can be played without a part before it.
+        /// Whether the part can be played without one before it.
         independent: bool,
-        /// Whether it is the last part of its segment.
+        /// Whether the part is the last of its segment.
         finish: bool,
     },
     /// `init RENDITION`
@@ -39,7 +39,7 @@ pub enum ItemLine<'a> {
     Break {
         /// The rendition's name.
         rendition: &'a str,
-        /// When the next segment begins, if the break sets that: milliseconds since 1970-01-01T00:00:00Z.
+        /// The time at which the next segment begins, if the break sets one: milliseconds since 1970-01-01T00:00:00Z.
         time: Option<u64>,
     },
     /// `end RENDITION`
@@ -116,7 +116,7 @@ fn flags_text(independent: bool, finish: bool) -> &'static str
     }
 }
 
-/// Returns the comma between the ID of a date range and the text of its other `attributes`, if there are any.
+/// Returns the comma that separates the ID of a date range from the text of its other `attributes`, empty if there are none.
 fn comma_before(attributes: &str) -> &'static str
     ensures { result.now ++ attributes.now ≡ spec.after_comma attributes.now }
 {
@@ -153,8 +153,8 @@ impl Item {
         push(text, line)
     }
 
-    /// Appends the line that announces the item in a channel of `settings`: that of a part or of an initialization section ends with
-    /// the number of its bytes.
+    /// Appends the line that announces the item in a channel of `settings`. That of a part or an initialization section ends with the number
+    /// of its bytes.
     pub fn push_published_line(
         &self,
         settings: &Settings,
@@ -178,7 +178,7 @@ impl Item {
     }
 }
 
-/// Returns the line of `part` in the rendition of this name.
+/// Returns the line of `part` in the rendition called `rendition`.
 fn part_line<'a>(rendition: &'a str, part: &PartItem) -> ItemLine<'a>
     ensures { line_text result ≡ spec.part_line rendition.now part.now.duration (flags_text part.now.independent part.now.finish) }
 {
@@ -190,7 +190,7 @@ fn part_line<'a>(rendition: &'a str, part: &PartItem) -> ItemLine<'a>
     }
 }
 
-/// Appends the line of a date range.
+/// Appends the line of a date range of the rendition called `rendition`.
 fn push_range(
     text: &mut String,
     rendition: &str,
@@ -220,7 +220,7 @@ fn push(text: &mut String, line: ItemLine<'_>) -> Result<(), AllocError>
     write!(text, "{line}")
 }
 
-/// Returns the name of the rendition of this index, empty if there is none.
+/// Returns the name of the rendition with the index `rendition`, empty if there is none.
 fn rendition_name(settings: &Settings, rendition: usize) -> &str
     ensures { result.now ≡ spec.name_of settings.now rendition }
 {

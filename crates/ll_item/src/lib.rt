@@ -1,5 +1,5 @@
-//! What a channel is configured to, what its publisher announces, with the lines that spell them, what of a rendition may be asked for, and which kinds of delta updates it has. Sections are those of
-//! draft-pantos-hls-rfc8216bis.
+//! The settings of a channel, the items that its publisher announces, the lines that spell both, the files that a request can be for, and the kinds of
+//! delta updates. Sections are those of draft-pantos-hls-rfc8216bis.
 #![tactic(auto)]
 
 mod channels;

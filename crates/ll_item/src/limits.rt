@@ -1,7 +1,7 @@
+//! The law of the limits of settings.
 ghost use Rattle.ll_item.specs.Settings.{LimitsLaw};
 
-/// The limits of a channel's settings, each as a plain fact. It does nothing: what it ensures is the law that no limit is
-/// broken exactly when all of these facts hold.
+/// States the law of the limits: settings break none exactly if each of the facts listed there holds. It does nothing when it runs.
 pub fn limits_law()
     ensures { LimitsLaw }
 {}

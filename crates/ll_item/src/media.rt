@@ -6,21 +6,21 @@ use crate::shared_bytes::SharedBytes;
 use std::alloc::{AllocError, Global};
 use std::marker::Model;
 
-/// The most bytes that an item may have.
+/// The largest number of bytes of an item.
 pub const MEDIA_LIMIT: u64 = 1_048_576;
 
-/// Bytes that are offered with an item, 1,048,576 at most: as they came, or zeros in place of bytes of which only the number is known.
+/// Bytes that an item is read with, 1,048,576 at most: as they came, or zeros if only their number is known.
 #[derive(Drop)]
 pub struct Payload<'a> {
     offered: Offered<'a>,
 }
 
-/// What a payload is made of.
+/// The contents of a payload.
 #[derive(Drop)]
 enum Offered<'a> {
-    /// These bytes.
+    /// The bytes as they came.
     Bytes(&'a [u8]),
-    /// So many zeros.
+    /// The number of zeros.
     Zeros(u64),
 }
 
@@ -37,7 +37,7 @@ impl<'a> Model for Payload<'a> {
 }
 
 impl<'a> Payload<'a> {
-    /// No bytes.
+    /// Returns no bytes.
     pub fn none() -> Payload<'a>
         ensures { result ≡ [] }
     {
@@ -46,7 +46,7 @@ impl<'a> Payload<'a> {
         }
     }
 
-    /// These bytes; none where they are too many.
+    /// Returns `bytes`, or `None` if there are more than 1,048,576.
     pub fn of_bytes(bytes: &'a [u8]) -> Option<Payload<'a>>
         ensures { MatchOption result (nat_le (length bytes.now) media_limit ≡ false)
             (λ payload. (payload ≡ bytes.now) × (nat_le (length bytes.now) media_limit ≡ true)) }
@@ -60,7 +60,7 @@ impl<'a> Payload<'a> {
         }
     }
 
-    /// Zeros in place of so many bytes; none where these are too many.
+    /// Returns `length` zeros, or `None` if that is more than 1,048,576.
     pub fn of_length(length: u64) -> Option<Payload<'a>>
         ensures { MatchOption result (nat_le length media_limit ≡ false)
             (λ payload. (payload ≡ zeros length) × (nat_le length media_limit ≡ true)) }
@@ -74,7 +74,7 @@ impl<'a> Payload<'a> {
         }
     }
 
-    /// Whether there are no bytes.
+    /// Returns whether there are no bytes.
     pub fn is_empty(&self) -> bool
         ensures { result ≡ (length self.now == 0) }
     {
@@ -85,18 +85,18 @@ impl<'a> Payload<'a> {
     }
 }
 
-/// The bytes of an item, 1,048,576 at most. All who hold them share them.
+/// The bytes of an item, 1,048,576 at most, shared by all their holders.
 #[derive(Drop)]
 pub struct Media {
     kept: Kept,
 }
 
-/// How the bytes of an item are kept.
+/// The bytes of an item as they are kept.
 #[derive(Drop)]
 enum Kept {
-    /// In a block that all holders share.
+    /// The block that all holders share.
     Shared(SharedBytes),
-    /// As the number of these zeros, which take no memory.
+    /// The number of zeros, which take no memory.
     Zeros(u64),
 }
 
@@ -113,7 +113,7 @@ impl Model for Media {
 }
 
 impl Media {
-    /// No bytes.
+    /// Returns no bytes.
     pub fn none() -> Media
         ensures { result ≡ [] }
     {
@@ -122,7 +122,7 @@ impl Media {
         }
     }
 
-    /// These bytes, copied into a block of their own. Zeros take no memory.
+    /// Copies the bytes of `payload` into a block of their own. Zeros take no memory.
     pub fn new(alloc: Global, payload: &Payload<'_>) -> Result<Media, AllocError>
         ensures { IfOk result (λ media. media ≡ payload.now) }
     {
@@ -133,7 +133,7 @@ impl Media {
         Ok(Media { kept })
     }
 
-    /// How many bytes there are.
+    /// Returns the number of bytes.
     pub fn len(&self) -> u64
         ensures length { result ≡ length self.now }
         ensures few { result ≤ media_limit }
@@ -155,7 +155,7 @@ impl Media {
         }
     }
 
-    /// Returns the block in which the bytes stand, which has one more holder then, or `None` if only their number is known.
+    /// Returns another handle of the block of the bytes, or `None` if only their number is known.
     pub fn block(&self) -> Result<Option<SharedBytes>, AllocError>
         ensures { IfOk result (λ found. MatchOption found (IsNumberAlone self.now) (λ block. block ≡ self.now)) }
     {
@@ -166,7 +166,7 @@ impl Media {
         }
     }
 
-    /// Another holder of these bytes.
+    /// Returns another handle of the same bytes.
     pub fn again(&self) -> Result<Media, AllocError>
         ensures { IfOk result (λ media. media ≡ self.now) }
     {

@@ -5,21 +5,21 @@ ghost use Rattle.ll_item.specs.Names as spec;
 
 use ll_attr::{Text, cut};
 
-/// Whether a text is a name: 1 to 32 characters a-z, 0-9, `-` or `_`.
+/// Returns whether `text` is a name: 1 to 32 characters a-z, 0-9, `-` or `_`.
 pub fn is_name(text: &str) -> bool
     ensures { result ≡ spec.is_name text.now }
 {
     !text.is_empty() && text.len() <= 32 && text.bytes().all(is_name_byte)
 }
 
-/// Whether a byte is a-z, 0-9, `-` or `_`.
+/// Returns whether `b` is a-z, 0-9, `-` or `_`.
 fn is_name_byte(b: u8) -> bool
     ensures { result ≡ spec.is_name_byte b }
 {
     b.is_ascii_lowercase() || b.is_ascii_digit() || b == b'-' || b == b'_'
 }
 
-/// Whether each of these is a name, and none stands twice.
+/// Returns whether each of `names` is a name, and none is there twice.
 pub(crate) fn are_names(names: &[Text]) -> bool
     ensures { result ≡ spec.are_names names.now }
 {
@@ -32,14 +32,14 @@ pub(crate) fn are_names(names: &[Text]) -> bool
     true
 }
 
-/// Whether one of these is this name.
+/// Returns whether one of `names` is `name`.
 fn is_among(names: &[Text], name: &str) -> bool
     ensures { result ≡ spec.is_among names.now name.now }
 {
     names.iter().any(|other| name == other.as_str())
 }
 
-/// Whether each name that a text joins by commas is one, and none stands twice.
+/// Returns whether each text between the commas of `text` is a name, and none is there twice.
 pub(crate) fn are_names_in(text: &str) -> bool
     ensures { result ≡ spec.are_names (pieces_at 44 text.now) }
 {
@@ -53,7 +53,7 @@ pub(crate) fn are_names_in(text: &str) -> bool
     is_name(rest)
 }
 
-/// Whether one of the names that a text joins by commas is this one.
+/// Returns whether one of the texts between the commas of `text` is `name`.
 fn is_among_in(text: &str, name: &str) -> bool
     ensures { result ≡ spec.is_among (pieces_at 44 text.now) name.now }
 {

@@ -1,3 +1,4 @@
+//! The settings of a channel and their limits.
 ghost use Rattle.std.specs.Prelude.{◌≡◌, ◌≢◌, ◌≤◌, ◌*◌, ◌&&◌, ℕ, List, IfErr, IfOk, length, None, true};
 ghost use Rattle.ll_item.specs.Configured.{configured};
 ghost use Rattle.ll_item.specs.Settings.{settings_of, limit_broken, number_end};
@@ -17,35 +18,34 @@ use std::alloc::{AllocError, Global};
 use std::marker::Model;
 use thiserror::Error;
 
-/// Why settings are refused: the first limit that they break, in this order; a line that isn't of its form before all of
-/// them, and memory that isn't found after them.
+/// Why settings are refused. If several apply, the first in this order counts, except that `BadLine` comes before all others.
 #[derive(Clone, Copy, Debug, PartialEq, Eq, Error)]
 pub enum SettingsFault {
-    /// The target duration isn't 1 to 60 seconds.
+    /// The target duration is outside 1 to 60 seconds.
     #[error("BadTarget")]
     BadTarget,
-    /// The part target isn't 10,000 microseconds to the target duration.
+    /// The part target duration is outside 10,000 microseconds to the target duration.
     #[error("BadPartTarget")]
     BadPartTarget,
-    /// The skip limit is less than six target durations.
+    /// The Skip Boundary is less than six target durations.
     #[error("SkipTooSmall")]
     SkipTooSmall,
-    /// The window is less than the skip limit and three target durations, or more than 86,400 seconds.
+    /// The window is less than the Skip Boundary and three target durations together, or more than 86,400 seconds.
     #[error("WindowTooSmall")]
     WindowTooSmall,
-    /// The channel's or a rendition's name has no name's form, or a rendition stands twice.
+    /// The channel's or a rendition's name is no name, or a rendition is there twice.
     #[error("BadName")]
     BadName,
     /// There is no rendition, or there are more than 8.
     #[error("NoRendition")]
     NoRendition,
-    /// The first media sequence number is past 2^60, or the start is past the year 9999.
+    /// The first Media Sequence Number is above 2^60, or the start is after the year 9999.
     #[error("BadStart")]
     BadStart,
-    /// A line isn't of a settings line's form.
+    /// The line doesn't have the form of a settings line.
     #[error("BadLine")]
     BadLine,
-    /// No memory was found.
+    /// Out of memory.
     #[error("Memory")]
     Memory,
 }
@@ -60,7 +60,7 @@ impl From<AllocError> for SettingsFault {
     }
 }
 
-/// What one channel is configured to, within the limits.
+/// The settings of one channel, within the limits.
 #[derive(Debug, Drop)]
 pub struct Settings {
     channel: Text,
@@ -78,7 +78,7 @@ impl PartialEq for Settings {
 
     ghost laws = { on_per lists_of (lists_per {E = bytes_eq} (Prim.search (comparing, rules))) };
 
-    /// Whether the settings are equal.
+    /// Returns whether the settings are equal.
     #[tactic(auto, using(crate::proofs::SameLemmas::settings_decided))]
     fn eq(&self, other: &Settings) -> bool
         ensures value { result ≡ same_settings self.now other.now }
@@ -88,7 +88,7 @@ impl PartialEq for Settings {
     }
 }
 
-/// Whether settings are the same, number by number and name by name.
+/// Returns whether `a` and `b` are the same, number by number and name by name.
 fn is_same(a: &Settings, b: &Settings) -> bool
     ensures { result ≡ same_settings a.now b.now }
 {
@@ -119,7 +119,7 @@ impl Model for Settings {
     ghost invariant = { λ s. limit_broken (configured s.numbers s.channel s.renditions.items) ≡ None };
 }
 
-/// The first limit that these numbers, names that are in their form or aren't, or so many renditions break.
+/// Returns the first limit that settings with the numbers `n` and `count` renditions break; `named` says whether their names break none.
 pub(crate) fn first_fault(n: &Numbers, named: bool, count: usize) -> Option<SettingsFault>
     ensures { (channel : List ℕ) (renditions : List (List ℕ)) → named ≡ (is_name channel && are_names renditions)
         → count ≡ length renditions → result ≡ limit_broken (configured n.now channel renditions) }
@@ -143,13 +143,17 @@ pub(crate) fn first_fault(n: &Numbers, named: bool, count: usize) -> Option<Sett
     }
 }
 
-/// The last millisecond of the year 9999, from 1970 on.
+/// The last millisecond of the year 9999, counted from 1970-01-01T00:00:00Z.
 const LAST_MILLI: u64 = 253_402_300_799_999;
 
 impl Settings {
-    /// The settings of a channel: its name, the target duration and the part target (seconds and microseconds), the skip
-    /// limit and the window (seconds), its renditions' names, the first media sequence number, and the time of the first
-    /// part (milliseconds since 1970-01-01T00:00:00Z); or the first limit that they break.
+    /// Makes the settings of a channel: its name `channel`, the target duration `target` in seconds, the part target duration `part_target` in
+    /// microseconds, the Skip Boundary `skip` and the least duration `window` of the window in seconds, the names `renditions`, the Media Sequence
+    /// Number `first` of the first segment, and the time `start` of the first part in milliseconds since 1970-01-01T00:00:00Z.
+    ///
+    /// # Errors
+    ///
+    /// The first limit that they break; never `BadLine` or `Memory`.
     pub fn new(
         channel: Text,
         target: u64,
@@ -190,7 +194,7 @@ impl Settings {
         }
     }
 
-    /// Settings of parts that are within the limits.
+    /// Makes settings of parts that are within the limits.
     pub(crate) fn of(channel: Text, numbers: Numbers, renditions: Vec<Text>) -> Settings
         requires { limit_broken (configured numbers channel renditions.items) ≡ None }
         ensures { result ≡ configured numbers channel renditions.items }
@@ -202,7 +206,7 @@ impl Settings {
         }
     }
 
-    /// Settings equal to these, or an error where no memory was found.
+    /// Copies the settings.
     pub fn copy(&self, alloc: Global) -> Result<Settings, AllocError>
         ensures { IfOk result (λ s. s ≡ self.now) }
     {
@@ -217,14 +221,15 @@ impl Settings {
         })
     }
 
-    /// Shows that settings are within the limits, and does nothing: what their type keeps is told to a caller's proof.
+    /// States for a caller's proof that the settings are within the limits. It does nothing when it runs.
     pub fn within_limits(&self)
         ensures { limit_broken self.now ≡ None }
     {
+        // Serves the proof alone.
         let _target = self.numbers.target;
     }
 
-    /// The channel's name.
+    /// Returns the channel's name.
     pub fn channel(&self) -> &str
         ensures value { result.now ≡ self.now.channel }
         ensures named { is_name result.now ≡ true }
@@ -232,7 +237,7 @@ impl Settings {
         self.channel.as_str()
     }
 
-    /// The target duration in seconds (EXT-X-TARGETDURATION, section 4.4.3.1).
+    /// Returns the target duration in seconds (EXT-X-TARGETDURATION, section 4.4.3.1).
     pub fn target(&self) -> u64
         ensures value { result ≡ self.now.target }
         ensures low { 1 ≤ result }
@@ -241,7 +246,7 @@ impl Settings {
         self.numbers.target
     }
 
-    /// The part target duration in microseconds (EXT-X-PART-INF, section 4.4.3.7).
+    /// Returns the part target duration in microseconds (EXT-X-PART-INF, section 4.4.3.7).
     pub fn part_target(&self) -> u64
         ensures value { result ≡ self.now.part_target }
         ensures low { 10000 ≤ result }
@@ -251,7 +256,7 @@ impl Settings {
         self.numbers.part_target
     }
 
-    /// The skip boundary in seconds (CAN-SKIP-UNTIL, section 4.4.3.8).
+    /// Returns the Skip Boundary in seconds (CAN-SKIP-UNTIL, section 4.4.3.8).
     pub fn skip(&self) -> u64
         ensures value { result ≡ self.now.skip }
         ensures high { result ≤ 86400 }
@@ -259,7 +264,7 @@ impl Settings {
         self.numbers.skip
     }
 
-    /// How long the window of segments lasts at least, in seconds (section 6.2.2).
+    /// Returns how long the segments of the window last together at least, in seconds (section 6.2.2).
     pub fn window(&self) -> u64
         ensures value { result ≡ self.now.window }
         ensures high { result ≤ 86400 }
@@ -267,7 +272,7 @@ impl Settings {
         self.numbers.window
     }
 
-    /// The renditions' names, in their order.
+    /// Returns the names of the renditions, in their order.
     pub fn renditions(&self) -> &[Text]
         ensures value { result.now ≡ self.now.renditions }
         ensures low { 1 ≤ length result.now }
@@ -276,18 +281,18 @@ impl Settings {
         self.renditions.as_slice()
     }
 
-    /// The index of the rendition of this name.
+    /// Returns the index of the rendition called `name`.
     pub fn rendition(&self, name: &str) -> Option<usize>
         ensures { result ≡ rendition_named self.now name.now }
     {
         self.renditions.iter().position(|r| r.as_str() == name)
     }
 
-    /// Returns the index of the rendition of this name.
+    /// Returns the index of the rendition called `name`.
     ///
     /// # Errors
     ///
-    /// `BadLine` if `name` is no name; `NoRendition` if the channel has no rendition of that name.
+    /// `BadLine` if `name` is no name; `NoRendition` if no rendition has it.
     pub fn named(&self, name: &str) -> Result<usize, ItemFault>
         ensures value { result ≡ spec.named self.now name.now }
         ensures not_memory { IfErr result (λ fault. fault ≢ ItemFault.Memory) }
@@ -298,7 +303,7 @@ impl Settings {
         self.rendition(name).ok_or(ItemFault::NoRendition)
     }
 
-    /// The media sequence number of the first segment (EXT-X-MEDIA-SEQUENCE, section 4.4.3.2).
+    /// Returns the Media Sequence Number of the first segment (EXT-X-MEDIA-SEQUENCE, section 4.4.3.2).
     pub fn first(&self) -> u64
         ensures value { result ≡ self.now.first }
         ensures high { result ≤ number_end }
@@ -306,7 +311,7 @@ impl Settings {
         self.numbers.first
     }
 
-    /// The time of the first part, in milliseconds since 1970-01-01T00:00:00Z (EXT-X-PROGRAM-DATE-TIME, section 4.4.4.6).
+    /// Returns the time of the first part, in milliseconds since 1970-01-01T00:00:00Z (EXT-X-PROGRAM-DATE-TIME, section 4.4.4.6).
     pub fn start(&self) -> u64
         ensures value { result ≡ self.now.start }
         ensures high { result ≤ last_milli }

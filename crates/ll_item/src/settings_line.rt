@@ -1,4 +1,4 @@
-//! The line that spells settings.
+//! Parsing of a settings line.
 ghost use Rattle.std.specs.Prelude.{◌≡◌, ◌≢◌, ◌∷◌, [], Ok, Err, None, Some, IfOk, IfErr, IsOk, IsErrOf, MatchOption, length};
 ghost use Rattle.ll_attr.specs.Words.{words};
 ghost use Rattle.ll_item.specs.Settings.{settings_in, configuration_of, names_in};
@@ -12,9 +12,11 @@ use ll_attr::{Text, cut, parse_number};
 use std::alloc::{AllocError, Global};
 
 impl Settings {
-    /// The settings that a line spells,
-    /// `channel NAME target=N part=N skip=N window=N renditions=NAMES first=N start=N`, where the names of renditions are
-    /// joined by commas; or why there are none: the line isn't of this form, the first limit that they break, or no memory.
+    /// Parses `line`, which is `channel NAME target=N part=N skip=N window=N renditions=NAMES first=N start=N`. NAMES are joined by commas.
+    ///
+    /// # Errors
+    ///
+    /// `BadLine` if `line` isn't of this form; else the first limit that the settings break; else `Memory`.
     pub fn read(alloc: Global, line: &str) -> Result<Settings, SettingsFault>
         ensures value { IfOk result (λ s. settings_in line.now ≡ Ok s) }
         ensures refused { IfErr result (λ f. f ≢ SettingsFault.Memory → settings_in line.now ≡ Err f) }
@@ -45,7 +47,7 @@ struct Fields<'a> {
     renditions: &'a str,
 }
 
-/// The words of a settings line, of which there are nine.
+/// The nine words of a settings line.
 #[derive(Clone, Copy)]
 struct Words<'a> {
     kind: &'a str,
@@ -59,7 +61,7 @@ struct Words<'a> {
     start: &'a str,
 }
 
-/// The fields of a line, where it is of a settings line's form.
+/// Parses the fields of `line`. Returns `None` if it doesn't have the form of a settings line.
 fn fields_of(line: &str) -> Option<Fields<'_>>
     ensures { MatchOption result (configuration_of (words line.now) ≡ None)
         (λ f. configuration_of (words line.now) ≡ Some (configured f.numbers f.channel.now (names_in f.renditions.now))) }
@@ -67,7 +69,7 @@ fn fields_of(line: &str) -> Option<Fields<'_>>
     fields_of_words(words_of(line)?)
 }
 
-/// The words of a line, where there are nine.
+/// Splits `line` into words. Returns `None` if there aren't nine.
 #[tactic(auto, unfolding(crate::specs::Settings::configuration_of))]
 fn words_of(line: &str) -> Option<Words<'_>>
     ensures { MatchOption result (configuration_of (words line.now) ≡ None)
@@ -96,7 +98,7 @@ fn words_of(line: &str) -> Option<Words<'_>>
     })
 }
 
-/// The fields that these words spell.
+/// Parses the fields that the words `w` spell.
 #[tactic(auto, unfolding(crate::specs::Settings::configuration_of))]
 fn fields_of_words(w: Words<'_>) -> Option<Fields<'_>>
     ensures { let read = configuration_of (w.entry.kind.now ∷ w.entry.channel.now ∷ w.entry.target.now ∷ w.entry.part_target.now ∷ w.entry.skip.now
@@ -120,28 +122,28 @@ fn fields_of_words(w: Words<'_>) -> Option<Fields<'_>>
     })
 }
 
-/// What stands after a key, where the word begins with it.
+/// Returns what follows `key` in `word`, or `None` if `word` doesn't begin with it.
 fn value<'a>(word: &'a str, key: &str) -> Option<&'a str>
     ensures { MatchOption result (spec.value_of key.now word.now ≡ None) (λ v. spec.value_of key.now word.now ≡ Some v.now) }
 {
     word.strip_prefix(key)
 }
 
-/// The number after a key, where the word begins with it.
+/// Parses the number that follows `key` in `word`.
 fn number(word: &str, key: &str) -> Option<u64>
     ensures { result ≡ spec.number_of key.now word.now }
 {
     parse_number(value(word, key)?, 20)
 }
 
-/// How many names a text joins by commas.
+/// Returns the number of names that `text` joins by commas.
 fn name_count(text: &str) -> usize
     ensures { result ≡ length (names_in text.now) }
 {
     text.split(',').count()
 }
 
-/// The channel's name and those that a text joins by commas, owned.
+/// Copies the name `channel` and those that `renditions` joins by commas.
 fn texts_of(alloc: Global, channel: &str, renditions: &str) -> Result<(Text, Vec<Text>), AllocError>
     ensures { IfOk result (λ t. (t.0 ≡ channel.now) × (t.1.items ≡ names_in renditions.now)) }
 {

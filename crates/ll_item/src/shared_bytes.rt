@@ -1,11 +1,11 @@
-//! Bytes that several hold.
+//! Bytes with several holders.
 ghost use Rattle.std.specs.Prelude.{◌≡◌, [], IfOk, length};
 
 use std::alloc::{AllocError, Global};
 use std::marker::Model;
 use std::sync::ArcSlice;
 
-/// Bytes that lie together and that all who hold them share. No bytes take no memory.
+/// Contiguous bytes that all their holders share. An empty value takes no memory.
 #[derive(Drop)]
 pub struct SharedBytes {
     bytes: Option<ArcSlice<u8>>,
@@ -22,14 +22,14 @@ impl Model for SharedBytes {
 }
 
 impl SharedBytes {
-    /// No bytes.
+    /// Returns no bytes.
     pub fn none() -> SharedBytes
         ensures { result ≡ [] }
     {
         SharedBytes { bytes: None }
     }
 
-    /// A copy of these bytes.
+    /// Copies `bytes`.
     pub fn of(alloc: Global, bytes: &[u8]) -> Result<SharedBytes, AllocError>
         ensures { IfOk result (λ block. block ≡ bytes.now) }
     {
@@ -41,14 +41,14 @@ impl SharedBytes {
         })
     }
 
-    /// How many bytes there are.
+    /// Returns the number of bytes.
     pub fn len(&self) -> usize
         ensures { result ≡ length self.now }
     {
         self.as_slice().len()
     }
 
-    /// The bytes.
+    /// Returns the bytes.
     pub fn as_slice(&self) -> &[u8]
         ensures { result.now ≡ self.now }
     {
@@ -58,7 +58,7 @@ impl SharedBytes {
         }
     }
 
-    /// Another holder of these bytes.
+    /// Returns another handle of the same bytes.
     pub fn again(&self) -> Result<SharedBytes, AllocError>
         ensures { IfOk result (λ block. block ≡ self.now) }
     {

@@ -1,9 +1,10 @@
-/// A kind of delta update (section 6.2.5.1), as the directive _HLS_skip names it. Where one may be asked for, none stands for the full
-/// playlist.
+//! The kinds of delta updates.
+
+/// A kind of delta update (section 6.2.5.1), as the directive `_HLS_skip` names it. In an `Option` of it, `None` stands for the full playlist.
 #[derive(Clone, Copy, Debug, PartialEq, Eq)]
 pub enum SkipKind {
-    /// Segments are skipped (`YES`).
+    /// One that skips segments (`YES`).
     Yes,
-    /// Segments are skipped, and date ranges may be (`v2`).
+    /// One that skips segments, and perhaps date ranges too (`v2`).
     V2,
 }

@@ -1,12 +1,14 @@
-/// What of a rendition a request is for.
+//! The files of a rendition, as a request asks for them.
+
+/// What a request asks for of a rendition.
 #[derive(Clone, Copy, PartialEq, Eq)]
 pub enum What {
-    /// Its playlist.
+    /// The Media Playlist.
     Playlist,
-    /// The segment of this Media Sequence Number.
+    /// The segment with this Media Sequence Number.
     Segment(u64),
-    /// The part of this index in the segment of this Media Sequence Number.
+    /// In the segment with this Media Sequence Number, the part with this Part Index.
     Part(u64, u64),
-    /// The Media Initialization Section of this number.
+    /// The Media Initialization Section with this map number, the `k` of `init<k>.mp4`.
     Init(u64),
 }

@@ -1,10 +1,10 @@
-//! The last word of a line.
+//! Texts of one word.
 ghost use Rattle.std.specs.Prelude.{◌≡◌, ◌∷◌, [], ℕ, List, MatchOption};
 ghost use Rattle.ll_attr.specs.Words.{words};
 
 use ll_attr::cut;
 
-/// The text, where it is one word: no space stands in it.
+/// Returns `text` if it is one word, which holds no space.
 pub(crate) fn one_word(text: &str) -> Option<&str>
     ensures { MatchOption result ((first : List ℕ) × (second : List ℕ) × (more : List (List ℕ)) × (words text.now ≡ first ∷ second ∷ more))
         (λ word. words text.now ≡ word.now ∷ []) }

@@ -95,7 +95,7 @@ unchanged t = record {
   removed = tt;
 }
 
--- what is told of items with more after them
+-- the fold of items with more after them
 pub changed : (xs ys : List Item) → IsChanged (told xs) (told (xs ++ ys))
 changed xs ys = subst (IsChanged (told xs)) (sym (fold-append step start xs ys)) (changed_on (told xs) (told xs) ys (unchanged (told xs)))
 

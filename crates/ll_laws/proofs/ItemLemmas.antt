@@ -49,7 +49,7 @@ accepted-after c before (x ∷ xs) ys h = rw (append_assoc before (x ∷ []) xs)
 pub in-order : (c : Configuration) (r : ℕ) (items more : List Item) → AreAccepted c [] (items ++ more) → AreInOrder c (own r items) (own r more)
 in-order c r items more h = in_order-own c r items more (accepted-after c [] items more h)
 
--- all parts last as long as it is told
+-- all parts together last until `end_time`
 lasts_on : (t : Told) (ys : List Item) → t.end_time ≡ duration t.parts → (fold step t ys).end_time ≡ duration (fold step t ys).parts
 lasts_on t [] e = e
 lasts_on t (item.Part p ∷ ys) e =

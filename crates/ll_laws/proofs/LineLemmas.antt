@@ -32,7 +32,7 @@ all_low (b ∷ bs) h = let p = and_parts (is_ascii b) (list_all is_ascii bs) h i
 pub utf8-ascii : (text : List ℕ) → AreAscii text → IsUtf8 text
 utf8-ascii text h = IsUtf8-from_ascii text (all_low text h)
 
--- a line that may stand in a playlist's text
+-- a line that is allowed in a playlist's text
 pub record IsSound (l : Line) : Type 0 where
   pub within : line.Within l
   pub utf8 : IsUtf8 (line.print l)

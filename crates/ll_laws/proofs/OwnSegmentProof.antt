@@ -6,7 +6,7 @@ use Rattle.ll_item.specs.Settings.{Configuration, skip_limit}
 use Rattle.ll_item.specs.declared.item.Item.{Item}
 use Rattle.ll_item.specs.declared.item.Item.TheVariants as item
 use Rattle.ll_item.specs.declared.part.Part.{Part}
-use Rattle.ll_window.specs.declared.fault.PushFault.{PushFault}
+use Rattle.ll_window.specs.declared.fault.WindowFault.{WindowFault}
 use Rattle.ll_window.specs.Compact.{Compact, clock, compact, skip_count}
 use Rattle.ll_window.specs.Refusal.{part_refusal, refusal, refusal_by, refusal_before_end}
 use Rattle.ll_window.specs.Rows.{Row, lasting}
@@ -31,7 +31,7 @@ part_limit c n lasts ends micros e = grind (arith, nat_tests, e)
 short : (limit target skip d : ℕ) → 1 ≤ target → 6 * target ≤ skip → limit ≡ skip * 1000000 → (d + 500000) / 1000000 ≤ target → d ≤ limit
 short limit target skip d one six e le = omega (arith, e, le)
 
-pub unended : (b : Bool) (o : Option PushFault) → refusal_by b o ≡ None → (b ≡ false) × (o ≡ None)
+pub unended : (b : Bool) (o : Option WindowFault) → refusal_by b o ≡ None → (b ≡ false) × (o ≡ None)
 unended true o e = absurd (grind (arith, e))
 unended false o e = (refl, e)
 

@@ -1,4 +1,4 @@
--- The lines of segments, of reports and the last one may stand in a playlist's text, and MAP lines stand where they must.
+-- The lines of segments, of reports and the last one are allowed in a playlist's text, and MAP lines are where they are required.
 use Rattle.std.proofs.Common.{◌≡◌, ℕ, suc, ◌+◌, ◌≤◌, ◌<◌, ◌==◌, ◌||◌, ◌&&◌, List, [], ◌∷◌, ◌++◌, map, Bool, true, false, not, Option, Some, None, length, refl, ap, ◌∙◌, arith}
 use Rattle.std.proofs.lemmas.Bool.{and_parts}
 use Rattle.std.proofs.lemmas.Bool.Decides.{nat_tests}

@@ -14,9 +14,9 @@ use Rattle.ll_item.specs.Settings.{Configuration, IsWithin}
 use Rattle.ll_item.specs.declared.item.Item.{Item}
 use Rattle.ll_item.specs.declared.item.Item.TheVariants.{Part, Init, Finish, Break, End}
 use Rattle.ll_item.proofs.WithinLimits.{within}
-use Rattle.ll_mp4.specs.declared.fault.Fault.{Fault}
+use Rattle.ll_mp4.specs.declared.fault.StreamFault.{StreamFault}
 use Rattle.ll_parts.specs.Stream.{Outcome}
-use Rattle.ll_parts.specs.declared.pieces.Part.{Part as MediaPart}
+use Rattle.ll_parts.specs.declared.pieces.MediaPart.{MediaPart}
 use Rattle.ll_parts.specs.declared.pieces.Piece.{Piece}
 use Rattle.ll_parts.specs.declared.pieces.Piece.TheVariants as piece
 use Rattle.ll_publish.specs.Line as says
@@ -145,7 +145,7 @@ module _ (channels : List Configuration) (place : ℕ) (c : Configuration) (rend
         (spoken_items rendition part course (first_of readings) piece) (items_of names rendition part (course_then course said piece) (later_readings piece readings) pieces)
         (piece-reads course (first_of readings) piece) (pieces-read (course_then course said piece) (later_readings piece readings) pieces)
 
-    last-read : (fault : Option Fault) (ends : Bool)
+    last-read : (fault : Option StreamFault) (ends : Bool)
         → map (read_in channels) (lines (text_of (last_texts names fault ends))) ≡ map (read_as place) (last_items rendition fault ends)
     last-read (Some fault) ends = refl
     last-read None false = refl

@@ -1,5 +1,5 @@
--- The date ranges that are listed were published: the line of each may stand in a playlist's text, and so may its id once it
--- is taken away.
+-- The date ranges that are listed were published: the line of each is allowed in a playlist's text, and so is its id once it
+-- is removed.
 use Rattle.std.proofs.Common.{◌≡◌, ℕ, ◌==◌, ◌&&◌, ◌||◌, Bool, true, false, not, List, [], ◌∷◌, ◌++◌, map, refl, ap, ◌∙◌, bytes_eq, Some, None, if◌then◌else◌}
 use Rattle.std.specs.Str.{is_utf8}
 use Rattle.ll_attr.specs.Attributes as attribute
@@ -37,11 +37,11 @@ have_texts : (c : Configuration) (before items : List Item) → ArePublished c b
 have_texts c before [] h = tt
 have_texts c before (i ∷ items) h = (h.2, have_texts c (before ++ i ∷ []) items h.3)
 
--- its line may stand in a playlist's text
+-- its line is allowed in a playlist's text
 abbrev pub IsListable : Listed → Type 0
 IsListable x = IsSound (DateRange (range_line x))
 
--- an id that may be told
+-- an id that is allowed in a playlist's text
 abbrev pub IsTellable : List ℕ → Type 0
 IsTellable id = (is_id id ≡ true) × (is_utf8 id ≡ true)
 
@@ -91,7 +91,7 @@ listable_step c before (item.Unrange r id) none texts h =
           (each-filter (λ (r : Removal). IsTellable r.id) other t.removals h.removed) ((is, texts), tt);
     }
 
--- what is told of what was published
+-- the date ranges and removals of published items are listable
 pub listable : (c : Configuration) (items : List Item) (r : ℕ) → ArePublished c [] items → AreListable (told (own r items))
 listable c items r published =
     told-after AreListable HasTexts c (listable_step c) [] (own r items) (told-own c r [] items (all-announced c [] items published))

@@ -1,4 +1,4 @@
--- The line of a date range may stand in a playlist's text: no attribute list that can be read holds CR or LF.
+-- The line of a date range is allowed in a playlist's text: no attribute list that can be read holds CR or LF.
 use Rattle.std.proofs.Common.{◌≡◌, ℕ, true, List, [], ◌∷◌, ◌++◌, length, append_assoc, nat_le, arith, refl, ap, ◌∙◌, codes, Ok}
 use Rattle.std.proofs.lemmas.Bool.{and_from}
 use Rattle.std.proofs.lemmas.Str.{IsUtf8-nil, IsUtf8-append, IsUtf8-from_is_utf8}

@@ -35,7 +35,7 @@ kept_lines removed base own =
     ∙ ap (λ js. map range_line (filter (stays_by removed js) base) ++ map range_line own) (line_ids own)
     ∙ sym (map-append range_line (filter (stays_by removed (ids own)) base) own)
 
--- the ids of the recent removals that are told of items
+-- the ids of the recent removals after these items
 abbrev pub removed_after : Configuration → List Item → List (List ℕ)
 removed_after c items = removal_ids (recent_at (end_time items) (announced c items))
 

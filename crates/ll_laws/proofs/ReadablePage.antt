@@ -1,4 +1,4 @@
--- A playlist with some segments of what was published is readable: all lines are sound, and they stand where they may.
+-- A playlist with some segments of published items is readable: all lines are sound, and they are where they are allowed.
 use Rattle.std.proofs.Common.{◌≡◌, ℕ, ◌*◌, ◌≤◌, ◌<◌, ◌==◌, List, [], ◌∷◌, true, is_none, Option, None, length, drop, map, refl, sym, subst, arith}
 use Rattle.std.proofs.lemmas.Str.{is_utf8-from_IsUtf8}
 use Rattle.std.specs.Prelude.{flat_map}
@@ -42,11 +42,11 @@ breaks_low c xs b = let l = few-breaks c xs in let n = b.numbers in omega (arith
 times_low : (c : Configuration) (xs : List Item) → IsBounded (compact c xs) → end_time xs < duration_end
 times_low c xs b = omega (arith, b.ends, b.forward, b.times)
 
--- the reports that stand in a rendition's playlist
+-- the reports in a rendition's playlist
 abbrev pub reports_at : Configuration → List Item → ℕ → List Report
 reports_at c items r = reports_from r 0 c.renditions (renditions c items)
 
--- a rendition's playlist with these date ranges, where so many segments are skipped, for which this stands
+-- a rendition's playlist with these date ranges, without the first `n` segments, for which `skipped` stands
 abbrev pub page_at : List Listed → Option Skip → ℕ → Configuration → List Report → Rendition → Playlist
 page_at ranges skipped n c reports k = record (playlist_of c reports k) {
   ranges = map range_line ranges;

@@ -43,7 +43,7 @@ some_segment n rs lt =
     let e = length-drop n rs in
     empty-printed false (drop n rs) ∙ some_window 0 (length (drop n rs)) (omega (arith, e))
 
--- what a delta update lists, and what it tells of removals
+-- the date ranges and the removals that a delta update lists
 
 listable_left : (kind : SkipKind) (c : Configuration) (xs : List Item) → AreListable (told xs) → Each IsListable (ranges_left kind (kept c xs))
 listable_left Yes c xs h = h.each

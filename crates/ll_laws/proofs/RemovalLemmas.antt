@@ -1,4 +1,4 @@
--- Which ids were taken away not long ago, by the removals that are told.
+-- The ids whose removal is recent, by the list of removals.
 use Rattle.std.proofs.Common.{◌≡◌, ℕ, ◌+◌, ◌≤◌, ◌&&◌, ◌||◌, Bool, true, false, not, cond, List, [], ◌∷◌, ◌++◌, map, filter, Some, bytes_eq, refl, ap, sym, subst, ◌∙◌, arith}
 use Rattle.std.proofs.Math.Bool.{and-true}
 use Rattle.std.proofs.lemmas.Bool.{true≢false, and_from, and_parts, and_left, and_right, or_from, or_left, or_right}
@@ -12,7 +12,7 @@ use Rattle.ll_apply.specs.Applied.{is_one_of}
 use Rattle.ll_laws.proofs.ApartLemmas.{same-bytes, bytes-back}
 use Rattle.ll_laws.proofs.FilterLemmas.{none-left}
 
--- whether a removal of this id is recent, where all parts last until now
+-- whether a removal of this id is recent, if all parts last until `now`
 abbrev pub was_lately : ℕ → ℕ → List ℕ → List Removal → Bool
 was_lately limit now id rs = list_any (λ (r : Removal). bytes_eq id r.id && is_recent limit now r) rs
 

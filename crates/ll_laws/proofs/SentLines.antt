@@ -266,7 +266,7 @@ media-good : (n : ℕ) (channel item rest : List ℕ) → (slice_index rest n ==
     → with_media n channel item rest ≡ (Some (Item channel item (take n rest)), at_line (drop (n + 1) rest))
 media-good n channel item rest e = rw e refl
 
--- the bytes that a line tells, and LF
+-- the bytes whose number a line says, and LF
 media-is : (channel line item media bytes : List ℕ) → length media ≤ media_limit
     → front_item channel line (Some (item, length media)) (media ++ 10 ∷ []) bytes ≡ (Some (Item channel item media), at_line [])
 media-is channel line item media bytes few =
@@ -282,7 +282,7 @@ counted-plain line n plain few =
     plain-more 82 100 (counted_line line n) (omega arith)
     (plain-both 61 21 line (codes " " ++ decimal n) plain (plain-both 1 20 (codes " ") (decimal n) plain-space (plain-number n (omega (arith, few)))))
 
--- the message of an item with bytes is one line, with just these
+-- the message of an item with bytes is one line, with exactly these bytes
 pub item-front : (channel line media : List ℕ) → is_name channel ≡ true → IsSpelled line → length media ≤ media_limit
     → front_of (item_text channel line media) ≡ (Some (Item channel line media), at_line [])
 item-front channel line media named spelled few =

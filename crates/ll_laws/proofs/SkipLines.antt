@@ -1,4 +1,4 @@
--- The line of what a delta update skips may stand in its text where it tells which date ranges were taken away.
+-- The EXT-X-SKIP line of a delta update is allowed in its text, also if it lists removed date ranges.
 use Rattle.std.proofs.Common.{◌≡◌, ℕ, ◌≤◌, List, [], ◌∷◌, ◌++◌, true, not, length, nat_le, Some, refl, sym, arith, codes, decimal}
 use Rattle.std.proofs.lemmas.Bool.{true≢false, and_parts, and_from}
 use Rattle.std.proofs.lemmas.Bool.Decides.{nat_tests}
@@ -14,7 +14,7 @@ use Rattle.ll_read.specs.Readable.{Each}
 use Rattle.ll_laws.proofs.LineLemmas.{IsSound, number, utf8-ascii}
 use Rattle.ll_laws.proofs.RangeItems.{IsTellable}
 
--- ids that may be told
+-- ids that are allowed in such a line
 
 between : (b : ℕ) → is_id_byte b ≡ true → is_byte_between 9 b ≡ true
 between b h = grind (arith, nat_tests)

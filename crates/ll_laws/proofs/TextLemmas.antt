@@ -1,4 +1,4 @@
--- Numbers, times and the URIs of media consist of ASCII bytes that may stand in quotes.
+-- Numbers, times and the URIs of media consist of ASCII bytes that are allowed in quotes.
 use Rattle.std.proofs.Common.{◌≡◌, ℕ, zero, suc, ◌/◌, ◌%◌, ◌≤◌, ◌<◌, ◌==◌, ◌&&◌, Bool, true, false, cond, List, [], ◌∷◌, ◌++◌, length, refl, ap, ◌∙◌, arith, nat_le, codes, decimal}
 use Rattle.std.proofs.lemmas.Bool.{and_parts, and_from}
 use Rattle.std.proofs.lemmas.Bool.Decides.{nat_tests}

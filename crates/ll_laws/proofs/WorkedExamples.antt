@@ -1,4 +1,4 @@
--- The definitions, computed: each side of these equations comes to the same numerals.
+-- The definitions, computed: both sides of each equation have the same value.
 use Rattle.std.proofs.Common.{refl}
 use Rattle.std.specs.Fmt.{digits}
 use Rattle.ll_attr.specs.Durations.{seconds}

@@ -8,7 +8,7 @@ use Rattle.ll_item.specs.Settings.{Configuration, limit_broken}
 use Rattle.ll_item.specs.declared.item.Item.{Item}
 use Rattle.ll_item.specs.declared.item.Item.TheVariants.{Part, Init, Finish, Break, End}
 use Rattle.ll_item.specs.declared.item.ItemFault.{ItemFault}
-use Rattle.ll_mp4.specs.declared.fault.Fault.{Fault}
+use Rattle.ll_mp4.specs.declared.fault.StreamFault.{StreamFault}
 use Rattle.ll_parts.specs.Stream.{Outcome}
 use Rattle.ll_parts.specs.declared.pieces.Piece.{Piece}
 use Rattle.ll_parts.specs.declared.pieces.Piece.TheVariants as piece
@@ -28,11 +28,11 @@ use Rattle.ll_push.specs.Exchanges.{text_of}
 
 -- ---- items
 
--- the names of a channel and of its rendition of this index
+-- the names of a channel and of its rendition of index `rendition`
 abbrev pub names_of : Configuration → ℕ → Names
 names_of c rendition = record { channel = c.channel; rendition = name_of c rendition }
 
--- a segment that is open ends before a movie
+-- an open segment is finished before a movie begins
 abbrev pub closing_items : ℕ → ℕ → List Item
 closing_items rendition index = if not (index == 0) then Finish rendition ∷ [] else []
 
@@ -40,7 +40,7 @@ abbrev pub opening_items : ℕ → Option (Option ℕ) → List Item
 opening_items rendition (Some time) = Break rendition time ∷ []
 opening_items rendition None = []
 
--- the items of a piece, as what was announced before has led to this course
+-- the items of a piece, after what was announced before has led to course `c`
 abbrev pub spoken_items : ℕ → ℕ → Course → ℕ → Piece → List Item
 spoken_items rendition part c now (piece.Begin section) =
     (closing_items rendition c.place.index ++ opening_items rendition (opening part c now)) ++ Init rendition section ∷ []
@@ -51,26 +51,26 @@ spoken_items rendition part c now piece.Finish = Finish rendition ∷ []
 spoken_items rendition part c now (piece.Break None) = Break rendition None ∷ []
 spoken_items rendition part c now (piece.Break (Some since)) = Break rendition (Some (gap_time c since)) ∷ []
 
--- the items of pieces
+-- the items of pieces, one after another
 abbrev pub items_of : Names → ℕ → ℕ → Course → List ℕ → List Piece → List Item
 items_of names rendition part c readings [] = []
 items_of names rendition part c readings (piece ∷ pieces) =
     spoken_items rendition part c (first_of readings) piece
     ++ items_of names rendition part (course_then c (spoken names part c (first_of readings) piece) piece) (later_readings piece readings) pieces
 
--- the rendition's end, where it is to be ended and no fault ends what comes
-abbrev pub last_items : ℕ → Option Fault → Bool → List Item
+-- the end of the rendition, if it is to be ended and no fault ended the encoder's stream
+abbrev pub last_items : ℕ → Option StreamFault → Bool → List Item
 last_items rendition (Some fault) ends = []
 last_items rendition None false = []
 last_items rendition None true = End rendition ∷ []
 
--- the place of a channel, and what a text with these bytes says there
+-- the place of a channel, and the item that a text with these bytes spells there, or its fault
 abbrev pub read_by : Option (ℕ × Configuration) → (text media : List ℕ) → Option (ℕ × Result Item ItemFault)
 read_by None text media = None
 read_by (Some found) text media = Some (found.0, item_in found.1 text media)
 
--- what a publisher's line is to an origin of these channels: the place of the channel that it names, and the item that it spells there, or what is wrong with
--- it; None if it names no channel, or isn't the line of an item
+-- what a publisher's line is to an origin of these channels: the place of the channel that it names, and the item that it spells there, or
+-- its fault; `None` if it names no channel, or isn't the line of an item
 abbrev pub read_in : List Configuration → says.Line → Option (ℕ × Result Item ItemFault)
 read_in channels (says.Item name text media) = read_by (channel_of_name channels 0 name) text media
 read_in channels (says.At name rendition) = None
@@ -78,24 +78,25 @@ read_in channels says.Bad = None
 read_in channels says.TooLong = None
 read_in channels says.MediaTooLong = None
 
--- an item of the channel at this place
+-- an item of the channel at `place`, as it is read
 abbrev pub read_as : ℕ → Item → Option (ℕ × Result Item ItemFault)
 read_as place item = Some (place, Ok item)
 
--- the channel of these settings, which are within their limits, stands at this place, and has a rendition of this index
+-- the channel with settings `c`, which are within their limits, is at `place`, and has a rendition of index `rendition`
 pub record IsThere (channels : List Configuration) (place : ℕ) (c : Configuration) (rendition : ℕ) : Type 0 where
   pub found : channel_of_name channels 0 c.channel ≡ Some (place, c)
   pub unbroken : limit_broken c ≡ None
   pub inside : rendition < length c.renditions
 
--- What is sent for some pieces, one after another, is read as their items, with just their bytes, if a line can spell each; and then comes what the bytes after it say.
+-- What is sent for some pieces is read as their items, each with exactly its bytes, if a line can spell each item; and then as what the bytes
+-- after it say.
 abbrev pub PiecesLaw : Type 0
 PiecesLaw = (channels : List Configuration) (place : ℕ) (c : Configuration) (rendition part : ℕ) (course : Course) (readings : List ℕ) (pieces : List Piece) (more : List ℕ)
     → IsThere channels place c rendition → All (IsWritable c) (items_of (names_of c rendition) rendition part course readings pieces)
     → map (read_in channels) (lines (text_of (texts (names_of c rendition) part course readings pieces) ++ more))
     ≡ map (read_as place) (items_of (names_of c rendition) rendition part course readings pieces) ++ map (read_in channels) (lines more)
 
--- All that is sent of an encoder's bytes is read as the items of all their pieces, and then the end where it is sent.
+-- All that is sent of an encoder's bytes is read as the items of all their pieces, if a line can spell each item, and then the end if it is sent.
 abbrev pub PushedLaw : Type 0
 PushedLaw = (channels : List Configuration) (place : ℕ) (c : Configuration) (rendition part : ℕ) (ends : Bool) (course : Course) (readings : List ℕ) (outcome : Outcome)
     → IsThere channels place c rendition → All (IsWritable c) (items_of (names_of c rendition) rendition part course readings outcome.pieces)
@@ -104,7 +105,7 @@ PushedLaw = (channels : List Configuration) (place : ℕ) (c : Configuration) (r
 
 -- ---- answers
 
--- a text is one line and its end, of no more than 128 bytes in all; whether it accepts, and whether it refuses
+-- `text` is one line with its end, of at most 128 bytes in all, which accepts and refuses as these say
 pub record IsAnswer (text : List ℕ) (accepted refused : Bool) : Type 0 where
   pub line : List ℕ
   pub is : text ≡ ended line
@@ -116,11 +117,11 @@ pub record IsAnswer (text : List ℕ) (accepted refused : Bool) : Type 0 where
 abbrev pub AcceptedLaw : Type 0
 AcceptedLaw = (count : ℕ) → count < 2 ^ 64 → IsAnswer (reply_line (Ok (Accepted count))) true false
 
--- the answer to a refused line refuses, whatever the reason
+-- the answer to a refused line refuses, for any reason
 abbrev pub RefusedLaw : Type 0
 RefusedLaw = (reason : Refusal) → IsAnswer (reply_line (Err reason)) false true
 
--- the answer that tells where a rendition stands, as `llhls push` takes it
+-- where a rendition stands, as `llhls push` reads it from an answer
 abbrev pub told_of : Told → Standing
 told_of s = record {
   count = s.count;
@@ -128,7 +129,7 @@ told_of s = record {
   time = s.time;
 }
 
--- numbers of 64 bits
+-- all numbers have 64 bits
 pub record IsCounted (s : Told) : Type 0 where
   pub count : s.count < 2 ^ 64
   pub number : s.number < 2 ^ 64
@@ -136,6 +137,6 @@ pub record IsCounted (s : Told) : Type 0 where
   pub end_time : s.end_time < 2 ^ 64
   pub time : s.time < 2 ^ 64
 
--- The answer that tells it is one line of no more than 128 bytes, is read as what it tells, and neither accepts nor refuses.
+-- The answer that says where a rendition stands is one line of at most 128 bytes, is read as what it says, and neither accepts nor refuses.
 abbrev pub StandingLaw : Type 0
 StandingLaw = (s : Told) → IsCounted s → (a : IsAnswer (reply_line (Ok (Stands s))) false false) × (standing.read a.line ≡ Some (told_of s))

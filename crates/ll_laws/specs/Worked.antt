@@ -1,4 +1,4 @@
--- The definitions at worked examples: small streams, and the whole text of a playlist of each, byte for byte.
+-- Worked examples: small streams, and whole texts of their playlists and delta updates, byte for byte.
 use Rattle.std.specs.Prelude.{◌≡◌, ℕ, List, [], ◌∷◌, ◌++◌, true, false, Ok, codes, Bool, None}
 use Rattle.ll_attr.specs.declared.attributes.Attribute.{Attribute}
 use Rattle.ll_attr.specs.declared.attributes.AttrValue.TheVariants.{Quoted, Bare}
@@ -36,7 +36,7 @@ two_renditions = record {
   start = 0;
 }
 
--- one rendition, a target duration of 1 s and a skip limit of 6 s
+-- one rendition, a target duration of 1 s and a Skip Boundary of 6 s
 abbrev pub short_segments : Configuration
 short_segments = record {
   channel = codes "cam";
@@ -49,7 +49,7 @@ short_segments = record {
   start = 0;
 }
 
--- two renditions, a target duration of 1 s; the first segments have number 40, and their time is 2026-03-07T15:04:05.250Z
+-- two renditions, a target duration of 1 s; the first segments have number 40, and begin at 2026-03-07T15:04:05.250Z
 abbrev pub afternoon : Configuration
 afternoon = record {
   channel = codes "cam";
@@ -62,7 +62,7 @@ afternoon = record {
   start = 1772895845250;
 }
 
--- a part of a rendition, which lasts so many microseconds, is independent and finishes its segment, or not
+-- a part of a rendition, which lasts `duration` microseconds, and is independent and finishes its segment, or not
 abbrev pub part : ℕ → ℕ → Bool → Bool → Item
 part rendition duration independent finish =
     item.Part (record { rendition = rendition; duration = duration; independent = independent; finish = finish; media = [] })
@@ -70,7 +70,7 @@ part rendition duration independent finish =
 abbrev pub whole_part : Item
 whole_part = part 0 1000000 true true
 
--- eight segments of a second, of which the fourth is broken from the third
+-- eight segments of a second, of which the fourth is broken
 abbrev pub eight_seconds : List Item
 eight_seconds =
     whole_part ∷ whole_part ∷ whole_part ∷ item.Break 0 None ∷ whole_part ∷ whole_part ∷ whole_part ∷ whole_part ∷ whole_part ∷ []
@@ -85,7 +85,7 @@ start_date = record { name = codes "START-DATE"; value = Quoted (codes "1970-01-
 abbrev pub dated : List ℕ → Item
 dated id = item.Range 0 id (start_date ∷ [])
 
--- the same with four date ranges, of which two leave
+-- the same with four date ranges, of which two are removed
 abbrev pub eight_seconds_with_ranges : List Item
 eight_seconds_with_ranges =
     dated (codes "a") ∷ dated (codes "b") ∷ dated (codes "c") ∷ whole_part ∷ item.Unrange 0 (codes "c") ∷ whole_part ∷ item.Unrange 0 (codes "b")
@@ -94,13 +94,13 @@ eight_seconds_with_ranges =
 abbrev pub one_second : Attribute
 one_second = record { name = codes "DURATION"; value = Bare (codes "1.0") }
 
--- three date ranges, of which the first leaves, around a part
+-- a part with two date ranges before it and one after it; the first one is removed after it
 abbrev pub ranges_and_part : List Item
 ranges_and_part =
     item.Range 0 (codes "x") (start_date ∷ []) ∷ item.Range 0 (codes "b c") (start_date ∷ one_second ∷ []) ∷ part 0 1000000 true true
     ∷ item.Unrange 0 (codes "x") ∷ item.Range 0 (codes "a") (one_second ∷ start_date ∷ []) ∷ []
 
--- parts of both renditions, three of them of the second, which go on with a break after a finished segment
+-- parts of both renditions; of the three of the second, the last comes after a break that follows a finished segment
 abbrev pub mixed_parts : List Item
 mixed_parts =
     part 1 334000 true false ∷ part 0 300000 true true ∷ part 1 333999 false true ∷ item.Break 1 None ∷ item.Break 0 None
@@ -109,8 +109,8 @@ mixed_parts =
 abbrev pub dependent_part : Item
 dependent_part = part 0 1000000 false true
 
--- eleven segments of a second, of which the first, the second and the sixth are broken, then two parts that go on; two parts
--- of the other rendition among them
+-- eleven segments of a second, of which the first, the second and the sixth are broken, then two parts of an open segment; two
+-- parts of the other rendition among them
 abbrev pub afternoon_parts : List Item
 afternoon_parts =
     item.Break 0 None ∷ whole_part ∷ item.Break 0 None ∷ dependent_part ∷ part 1 300000 true false ∷ dependent_part ∷ dependent_part ∷ dependent_part
@@ -146,7 +146,7 @@ segment_text =
 abbrev pub one_segment_text : List ℕ
 one_segment_text = header_text ++ segment_text
 
--- date ranges stand in order of adding
+-- date ranges are in order of adding
 abbrev pub date_ranges_text : List ℕ
 date_ranges_text =
     header_text
@@ -194,7 +194,7 @@ ended_text =
     ++ codes "#EXT-X-RENDITION-REPORT:URI=\"../hi/live.m3u8\",LAST-MSN=8,LAST-PART=0\n"
     ++ codes "#EXT-X-ENDLIST\n"
 
--- the header of an update of eight seconds
+-- the header of a delta update of `eight_seconds`
 abbrev pub eight_header : List ℕ
 eight_header =
     codes "#EXTM3U\n"
@@ -236,11 +236,11 @@ seven_segments =
     ++ codes "s7.m4s\n"
     ++ codes "#EXT-X-PRELOAD-HINT:TYPE=PART,URI=\"s8.0.m4s\"\n"
 
--- after the first segment seven seconds stand, after the second one six, which is the limit
+-- seven seconds follow the first segment, which is skipped; six follow the second, which is exactly the limit
 abbrev pub delta_update_text : List ℕ
 delta_update_text = eight_header ++ (codes "#EXT-X-SKIP:SKIPPED-SEGMENTS=1\n" ++ seven_segments)
 
--- a was added eight seconds ago, and d six, which is the limit
+-- a delta update that skips segments alone lists all date ranges: a was added eight seconds before, and d six
 abbrev pub lists_ranges_text : List ℕ
 lists_ranges_text =
     eight_header
@@ -249,7 +249,7 @@ lists_ranges_text =
     ++ codes "#EXT-X-SKIP:SKIPPED-SEGMENTS=1\n"
     ++ seven_segments
 
--- and c was removed seven seconds ago, b six
+-- a is skipped, and d isn't; c was removed seven seconds before, and b six, which is exactly the limit
 abbrev pub skips_ranges_text : List ℕ
 skips_ranges_text =
     eight_header
@@ -257,11 +257,11 @@ skips_ranges_text =
     ++ codes "#EXT-X-SKIP:SKIPPED-SEGMENTS=1,RECENTLY-REMOVED-DATERANGES=\"b\"\n"
     ++ seven_segments
 
--- where nothing was removed lately, the line says so
+-- if no removal is recent, the line says so
 abbrev pub removes_none_text : List ℕ
 removes_none_text = eight_header ++ (codes "#EXT-X-SKIP:SKIPPED-SEGMENTS=1,RECENTLY-REMOVED-DATERANGES=\"\"\n" ++ seven_segments)
 
--- two broken segments have left the window; parts are listed of the last three segments and of the open one
+-- two broken segments have left the window; the last three segments and the open one list their parts
 abbrev pub afternoon_text : List ℕ
 afternoon_text =
     codes "#EXTM3U\n"
@@ -322,7 +322,7 @@ ends_open_text =
     ++ codes "#EXT-X-ENDLIST\n"
 
 pub record WorkedPlaylists : Type 0 where
-  -- the settings of the first three examples are those that a line spells
+  -- `whole_seconds` has the settings that this line spells
   pub settings :
       settings_in (codes "channel cam target=4 part=1000000 skip=24 window=36 renditions=hi first=0 start=0") ≡ Ok whole_seconds
   pub empty : text_after whole_seconds [] 0 ≡ empty_text

@@ -1,4 +1,4 @@
--- Ids that are joined by tabs are told by their text.
+-- Ids that are joined by tabs follow from their text.
 use Rattle.std.proofs.Common.{◌≡◌, ℕ, List, [], ◌∷◌, ◌++◌, Some, ap, sym, ◌∙◌, codes, decimal, append_assoc}
 use Rattle.std.proofs.lemmas.List.{append-nil}
 use Rattle.std.specs.List.{flat_map, join_with_byte}
@@ -11,7 +11,7 @@ use Rattle.ll_line.specs.Text.{line_text}
 abbrev with_ids : ℕ → List (List ℕ) → Skip
 with_ids n ids = record { count = n; removed = Some ids }
 
--- ids that are joined by tabs are told by their text
+-- ids that are joined by tabs follow from their text
 pub ids_told : (n : ℕ) (ids : List (List ℕ)) → line_text (Skipped (with_ids n (cut_at 9 (join_with_byte 9 ids)))) ≡ line_text (Skipped (with_ids n ids))
 unfolding line_text
 ids_told n ids =

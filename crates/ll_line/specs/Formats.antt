@@ -1,4 +1,4 @@
--- How each line of a Media Playlist is spelled and read (section 4.4), without its end.
+-- The format of each line of a Media Playlist, by which it is both written and parsed (section 4.4), without its end.
 use Rattle.std.specs.Prelude.{ℕ, ◌^◌, List, [], ◌∷◌, Bool, false, not, ◌&&◌, ◌==◌, Option, Some, None, codes, if◌then◌else◌}
 use Rattle.std.specs.Option.{is_some}
 use Rattle.std.specs.Result.{is_ok}
@@ -8,7 +8,7 @@ use Rattle.ll_format.specs.Format.{◌>>=◌, Word, Format, Either, Left, Right,
 use Rattle.ll_format.specs.Words.{number, duration, quotable, uri, is_uri, rest_of_line, separated, text_if}
 use Rattle.ll_line.specs.Line.{Control, DateRangeLine, Skip, PartLine, Report, Line, First, Version, TargetDuration, ServerControl, PartTarget, MediaSequence, DiscontinuitySequence, DateRange, Skipped, Discontinuity, Map, Time, Part, Duration, Uri, RenditionReport, Hint, EndList}
 
--- the largest number that a line says
+-- the largest number in a line
 abbrev pub largest_number : ℕ
 largest_number = 2 ^ 61
 
@@ -49,18 +49,18 @@ date_range_fields =
     mapped range_from (λ r. (r.id, text_or_none r.attributes))
     (beside (after_key (codes "ID=\"") (quoted quotable)) (optional (codes ",") (to_end rest_of_line)))
 
--- how attributes are spelled after the id
+-- the attributes after the id, with a comma before them if there are any
 abbrev pub attributes_text : List ℕ → List ℕ
 attributes_text attributes = (optional (codes ",") (to_end rest_of_line)).print (text_or_none attributes)
 
 abbrev pub is_attribute_list : List ℕ → Bool
 is_attribute_list text = is_ok (attributes_in text)
 
--- section 4.4.5.1: an attribute list whose first attribute is the id
+-- section 4.4.5.1: an attribute list whose first attribute is ID
 abbrev pub date_range : Word DateRangeLine
 date_range = tested is_attribute_list (whole date_range_fields)
 
--- ids with a tab between two of them
+-- ids separated by tabs
 abbrev pub removed : Format (Option (List (List ℕ)))
 removed = optional (codes ",RECENTLY-REMOVED-DATERANGES=\"") (quoted (separated 9))
 
@@ -101,7 +101,7 @@ report =
 abbrev pub hint_field : Format (List ℕ)
 hint_field = after_key (codes "TYPE=PART,URI=\"") (quoted uri)
 
--- the tags that say something after a colon
+-- the tags with a value after a colon
 pub data Tag : Type 0 where
   VersionTag : Tag
   TargetDurationTag : Tag
@@ -174,7 +174,7 @@ word HintTag = whole hint_field
 abbrev pub tag_line : Word ((t : Tag) × Said t)
 tag_line = by_name name tags word
 
--- the tags that stand alone
+-- the tags without a value
 pub data Bare : Type 0 where
   BareFirst : Bare
   BareDiscontinuity : Bare
@@ -194,7 +194,7 @@ abbrev pub is_tag : List ℕ → Bool
 is_tag [] = false
 is_tag (b ∷ bs) = b == 35
 
--- whether a colon stands in a text
+-- whether a text has a colon
 abbrev pub has_colon : List ℕ → Bool
 has_colon text = is_some (after (codes ":") (until 58 text).1)
 
@@ -254,26 +254,26 @@ kind_of (RenditionReport r) = Left (Left (RenditionReportTag, r))
 kind_of (Hint uri) = Left (Left (HintTag, uri))
 kind_of EndList = Left (Right BareEndList)
 
--- a line: a tag with what it says, a tag alone or the URI of a segment
+-- a line: a tag with its value, a tag without one, or the URI of a segment
 abbrev pub line : Word Line
 line = mapped_word line_of kind_of (choice is_tag (choice has_colon tag_line (one_of bare_name bares)) uri_line)
 
--- what a line says
+-- the contents of a line, none if it is no line of this profile
 abbrev pub line_in : List ℕ → Option Line
 line_in text = line.read text
 
--- what a line with this tag says, where this text stands after the colon
+-- the contents of a line with this tag and this value after the colon
 abbrev pub said : Tag → List ℕ → Option Line
 said t text = (word t).read text >>= λ x. Some (tagged t x)
 
--- what a line with a tag of this name says
+-- the contents of a line whose tag has this name
 abbrev pub said_by : List ℕ → List ℕ → Option Line
 said_by tag text = named name tags tag >>= λ t. said t text
 
--- what a tag that stands alone says
+-- the contents of a line that is a tag without a value
 abbrev pub said_alone : List ℕ → Option Line
 said_alone text = named bare_name bares text >>= λ b. Some (bare b)
 
--- what a line that is no tag says
+-- the contents of a line that is no tag
 abbrev pub uri_said : List ℕ → Option Line
 uri_said text = if is_uri text then Some (Uri text) else None

@@ -4,14 +4,14 @@ use Rattle.ll_format.specs.Words.{is_one_line}
 use Rattle.ll_line.specs.Formats.{line}
 use Rattle.ll_line.specs.Line.{Line}
 
--- what is read is spelled so, and is within its bounds
+-- a line that is parsed is within its bounds, and is written as it was
 abbrev pub ReadIsSpelled : Type 0
 ReadIsSpelled = (text : List ℕ) (l : Line) → line.read text ≡ Some l → (text ≡ line.print l) × line.Within l
 
--- what is within its bounds is read again from its spelling
+-- a line within its bounds is parsed again from what is written
 abbrev pub SpelledIsRead : Type 0
 SpelledIsRead = (l : Line) → line.Within l → line.read (line.print l) ≡ Some l
 
--- and stands on one line: no CR or LF is in it
+-- a line within its bounds is written without CR and LF
 abbrev pub OnOneLine : Type 0
 OnOneLine = (l : Line) → line.Within l → is_one_line (line.print l) ≡ true

@@ -1,4 +1,4 @@
--- What a line of a Media Playlist says (section 4.4).
+-- The contents of a line of a Media Playlist (section 4.4).
 use Rattle.std.specs.Prelude.{ℕ, List, Bool, Option}
 
 -- an EXT-X-SERVER-CONTROL line
@@ -7,20 +7,20 @@ pub record Control : Type 0 where
   pub hold_back : ℕ
   -- microseconds
   pub skip_until : ℕ
-  -- whether a delta update may leave out date ranges
+  -- whether a delta update may skip date ranges
   pub skips_date_ranges : Bool
 
 -- an EXT-X-DATERANGE line
 pub record DateRangeLine : Type 0 where
   pub id : List ℕ
-  -- its other attributes, as a list of attributes is spelled
+  -- its other attributes, as an attribute list is spelled
   pub attributes : List ℕ
 
 -- an EXT-X-SKIP line
 pub record Skip : Type 0 where
-  -- how many segments it stands for
+  -- the number of segments that are skipped
   pub count : ℕ
-  -- the ids of date ranges that were removed recently, where it lists them
+  -- the ids of date ranges that were removed recently, if the line has RECENTLY-REMOVED-DATERANGES
   pub removed : Option (List (List ℕ))
 
 -- an EXT-X-PART line
@@ -33,9 +33,9 @@ pub record PartLine : Type 0 where
 -- an EXT-X-RENDITION-REPORT line
 pub record Report : Type 0 where
   pub uri : List ℕ
-  -- the Media Sequence Number of its last segment with a part
+  -- the Media Sequence Number of the rendition's last segment with a part
   pub number : ℕ
-  -- the index of that segment's last part
+  -- the Part Index of the last part of that segment
   pub index : ℕ
 
 pub data Line : Type 0 where

@@ -1,4 +1,4 @@
--- What a line is, as contracts see it.
+-- The value that contracts see of a line of the code.
 use Rattle.std.specs.Prelude.{ℕ, List}
 use Rattle.std.specs.Option.{option_map}
 use Rattle.ll_format.specs.Times.{time_text}

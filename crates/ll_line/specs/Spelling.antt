@@ -1,4 +1,4 @@
--- The lines of a playlist, and its text.
+-- The lines of a playlist, and its text (section 4.4).
 use Rattle.std.specs.Prelude.{ℕ, List, [], ◌∷◌, ◌++◌, Bool, true, false, Option, Some, None, map, flat_map}
 use Rattle.ll_line.specs.Line.{Skip, Line, First, Version, TargetDuration, ServerControl, PartTarget, MediaSequence, DiscontinuitySequence, DateRange, Skipped, Discontinuity, Map, Time, Part, Duration, Uri, RenditionReport, Hint, EndList}
 use Rattle.ll_line.specs.Text.{text_of}
@@ -32,11 +32,12 @@ abbrev pub open_lines : Option Block → List Line
 open_lines None = []
 open_lines (Some b) = block_lines b
 
+-- the last line: EXT-X-ENDLIST once the rendition has ended, before that EXT-X-PRELOAD-HINT (sections 4.4.3.4 and 4.4.5.3) (rules 14 and 16)
 abbrev pub last_line : Option (List ℕ) → Line
 last_line None = EndList
 last_line (Some uri) = Hint uri
 
--- the lines before all date ranges and segments
+-- the lines before all date ranges and segments (rule 20)
 abbrev pub head_lines : Playlist → List Line
 head_lines p = header_lines p.header ++ (MediaSequence p.sequence ∷ DiscontinuitySequence p.discontinuity ∷ [])
 

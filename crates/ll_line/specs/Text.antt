@@ -1,4 +1,4 @@
--- Lines of a text, each with its end.
+-- The text of lines, each with its end.
 use Rattle.std.specs.Prelude.{ℕ, List, ◌++◌, codes, flat_map}
 use Rattle.ll_line.specs.Formats.{line}
 use Rattle.ll_line.specs.Line.{Line}

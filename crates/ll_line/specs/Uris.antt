@@ -1,21 +1,21 @@
--- The URIs of media, which are this origin's own choice.
+-- The URIs of segments, parts, Media Initialization Sections and playlists, which are this origin's own choice (rule 8).
 use Rattle.std.specs.Prelude.{ℕ, List, ◌++◌, codes, decimal}
 use Rattle.ll_line.specs.declared.uri.Uri.{Uri}
 use Rattle.ll_line.specs.declared.uri.Uri.TheVariants.{Segment, Part, Map, Rendition, Text}
 
--- the segment of this media sequence number
+-- the segment with this Media Sequence Number (rule 8)
 unfoldable pub segment_uri : ℕ → List ℕ
 segment_uri number = codes "s" ++ (decimal number ++ codes ".m4s")
 
--- the part of this index in it
+-- the part with this index in it (rules 7 and 8)
 unfoldable pub part_uri : ℕ → ℕ → List ℕ
 part_uri number index = codes "s" ++ (decimal number ++ (codes "." ++ (decimal index ++ codes ".m4s")))
 
--- the Media Initialization Section of this number
+-- the Media Initialization Section with this map number (rule 8)
 unfoldable pub map_uri : ℕ → List ℕ
 map_uri number = codes "init" ++ (decimal number ++ codes ".mp4")
 
--- the playlist of the rendition of this name, from that of another one
+-- the playlist of the rendition with this name, relative to that of another one
 unfoldable pub report_uri : List ℕ → List ℕ
 report_uri name = codes "../" ++ (name ++ codes "/live.m3u8")
 

@@ -1,17 +1,17 @@
-//! Facts of the definitions, proved; none of these does anything.
+//! Laws of the definitions of this crate, stated by functions that do nothing when they run.
 ghost use Rattle.ll_line.specs.Laws.{ReadIsSpelled, SpelledIsRead, OnOneLine};
 
-/// What is read is spelled so, and is within its bounds.
+/// States that a line which is parsed is within its bounds, and is written as it was.
 pub fn read_is_spelled_law()
     ensures { ReadIsSpelled }
 {}
 
-/// What is within its bounds is read again from its spelling.
+/// States that a line within its bounds is parsed again from what is written.
 pub fn spelled_is_read_law()
     ensures { SpelledIsRead }
 {}
 
-/// What is within its bounds stands on one line: no CR or LF is in it.
+/// States that a line within its bounds is written without CR and LF.
 pub fn one_line_law()
     ensures { OnOneLine }
 {}

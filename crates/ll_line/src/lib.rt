@@ -1,5 +1,5 @@
-//! One line of a Media Playlist, without its end: read from a text and written to one; and, for contracts alone, a playlist as the list of
-//! its lines. Sections are those of draft-pantos-hls-rfc8216bis.
+//! The lines of a Media Playlist, parsed and written one by one, and, for contracts alone, a whole playlist. Sections are those of
+//! draft-pantos-hls-rfc8216bis.
 #![tactic(auto)]
 
 mod fields;

@@ -1,4 +1,4 @@
-//! What a line says. Texts are borrowed.
+//! The contents of a line. Texts are borrowed.
 
 use crate::time::DateTime;
 use crate::uri::Uri;
@@ -7,51 +7,55 @@ use ll_attr::Micros;
 /// EXT-X-SERVER-CONTROL (section 4.4.3.8).
 #[derive(Clone, Copy, Debug)]
 pub struct Control {
-    /// How far players hold back from the end.
+    /// The distance from the end of the playlist that players keep (PART-HOLD-BACK).
     pub hold_back: Micros,
-    /// The Skip Boundary.
+    /// The Skip Boundary (CAN-SKIP-UNTIL).
     pub skip_until: Micros,
-    /// Whether a delta update may leave out date ranges.
+    /// Whether a delta update may skip date ranges (CAN-SKIP-DATERANGES).
     pub skips_date_ranges: bool,
 }
 
 /// EXT-X-DATERANGE (section 4.4.5.1).
 #[derive(Clone, Copy, Debug)]
 pub struct DateRange<'a> {
-    /// The value of its ID attribute.
+    /// The value of the ID attribute.
     pub id: &'a str,
-    /// Its other attributes, as a list of attributes is spelled.
+    /// The other attributes, as an attribute list is spelled.
     pub attributes: &'a str,
 }
 
 /// EXT-X-SKIP (section 4.4.5.2).
 #[derive(Clone, Copy, Debug)]
 pub struct Skip<'a> {
-    /// How many segments it stands for.
+    /// The number of segments that are skipped.
     pub count: u64,
-    /// The ids of date ranges that were removed recently, with a tab between two of them, where it lists them.
+    /// The ids of date ranges that were removed recently, separated by tabs, if the line has RECENTLY-REMOVED-DATERANGES.
     pub removed: Option<&'a str>,
 }
 
 /// EXT-X-PART (section 4.4.4.9).
 #[derive(Clone, Copy, Debug)]
 pub struct PartLine<'a> {
+    /// The duration (DURATION).
     pub duration: Micros,
+    /// The URI of the part.
     pub uri: Uri<'a>,
+    /// Whether the part can be played without one before it (INDEPENDENT).
     pub independent: bool,
 }
 
-/// EXT-X-RENDITION-REPORT (section 4.4.5.4): how far another rendition has come.
+/// EXT-X-RENDITION-REPORT (section 4.4.5.4): the position of another rendition.
 #[derive(Clone, Copy, Debug)]
 pub struct Report<'a> {
+    /// The URI of the rendition's playlist.
     pub uri: Uri<'a>,
-    /// The Media Sequence Number of its last segment with a part.
+    /// The Media Sequence Number of the rendition's last segment with a part (LAST-MSN).
     pub number: u64,
-    /// The index of that segment's last part.
+    /// The Part Index of the last part of that segment (LAST-PART).
     pub index: u64,
 }
 
-/// What a line of a playlist says, by itself: without its end, and wherever it stands.
+/// A line of a playlist, without its end and whatever its place.
 #[derive(Clone, Copy, Debug)]
 pub enum Line<'a> {
     /// EXTM3U (section 4.4.1.1).

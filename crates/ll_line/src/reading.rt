@@ -1,4 +1,4 @@
-//! Lines, read from left to right and without memory.
+//! Parsing of lines, from left to right.
 ghost use Rattle.std.specs.Prelude.{◌≡◌};
 ghost use Rattle.std.specs.Option.{option_map};
 ghost use Rattle.ll_line.specs.Formats as spec;
@@ -14,8 +14,7 @@ use ll_format::{duration_at, flag_at, is_rest, is_uri, quoted_at, until, uri_at}
 use std::alloc::Global;
 
 impl Line<'_> {
-    /// What a line says, which stands here without its end; none where it says nothing of this profile. It never fails
-    /// for lack of memory.
+    /// Parses a line without its end. Returns `None` if it is no line of this profile, never because memory ran out.
     pub fn read(alloc: Global, text: &str) -> Option<Line<'_>>
         ensures { option_map meant result ≡ line.read text.now }
     {
@@ -30,7 +29,7 @@ impl Line<'_> {
     }
 }
 
-/// The URI of a segment.
+/// Parses the URI of a segment.
 fn segment_uri(text: &str) -> Option<Line<'_>>
     ensures { option_map meant result ≡ spec.uri_said text.now }
 {
@@ -41,7 +40,7 @@ fn segment_uri(text: &str) -> Option<Line<'_>>
     }
 }
 
-/// What a tag that stands alone says.
+/// Parses a tag without a value.
 fn alone(text: &str) -> Option<Line<'_>>
     ensures { option_map meant result ≡ spec.said_alone text.now }
 {
@@ -53,7 +52,7 @@ fn alone(text: &str) -> Option<Line<'_>>
     }
 }
 
-/// What a line with this tag says, where this text stands after the colon.
+/// Parses a line with the tag `tag`, a colon and the value `text`.
 fn tagged<'a>(alloc: Global, tag: &str, text: &'a str) -> Option<Line<'a>>
     ensures { option_map meant result ≡ said_by tag.now text.now }
 {
@@ -76,7 +75,7 @@ fn tagged<'a>(alloc: Global, tag: &str, text: &'a str) -> Option<Line<'a>>
     }
 }
 
-/// EXT-X-SERVER-CONTROL, after its colon.
+/// Parses the value of EXT-X-SERVER-CONTROL.
 fn control(text: &str) -> Option<Line<'_>>
     ensures { option_map meant result ≡ said ServerControlTag text.now }
 {
@@ -94,7 +93,7 @@ fn control(text: &str) -> Option<Line<'_>>
     }))
 }
 
-/// EXT-X-PART-INF, after its colon.
+/// Parses the value of EXT-X-PART-INF.
 fn part_target(text: &str) -> Option<Line<'_>>
     ensures { option_map meant result ≡ said PartTargetTag text.now }
 {
@@ -105,7 +104,7 @@ fn part_target(text: &str) -> Option<Line<'_>>
     Some(Line::PartTarget(Micros(duration)))
 }
 
-/// EXT-X-DATERANGE, after its colon: an attribute list whose first attribute is the id.
+/// Parses the value of EXT-X-DATERANGE, an attribute list whose first attribute is ID.
 fn date_range(alloc: Global, text: &str) -> Option<Line<'_>>
     ensures { option_map meant result ≡ said DateRangeTag text.now }
 {
@@ -121,7 +120,7 @@ fn date_range(alloc: Global, text: &str) -> Option<Line<'_>>
     Some(Line::DateRange(DateRange { id, attributes }))
 }
 
-/// This text, or the empty one.
+/// Returns `text`, or the empty text for `None`.
 fn or_empty(text: Option<&str>) -> &str
     ensures { result.now ≡ spec.text_or_empty (option_map (λ t. t.now) text.entry) }
 {
@@ -131,7 +130,7 @@ fn or_empty(text: Option<&str>) -> &str
     }
 }
 
-/// EXT-X-SKIP, after its colon.
+/// Parses the value of EXT-X-SKIP.
 fn skip(text: &str) -> Option<Line<'_>>
     ensures { option_map meant result ≡ said SkippedTag text.now }
 {
@@ -143,7 +142,7 @@ fn skip(text: &str) -> Option<Line<'_>>
     Some(Line::Skipped(Skip { count, removed }))
 }
 
-/// EXT-X-MAP, after its colon.
+/// Parses the value of EXT-X-MAP.
 fn map(text: &str) -> Option<Line<'_>>
     ensures { option_map meant result ≡ said MapTag text.now }
 {
@@ -154,7 +153,7 @@ fn map(text: &str) -> Option<Line<'_>>
     Some(Line::Map(Uri::Text(uri)))
 }
 
-/// EXT-X-PROGRAM-DATE-TIME, after its colon.
+/// Parses the value of EXT-X-PROGRAM-DATE-TIME.
 fn time(text: &str) -> Option<Line<'_>>
     ensures { option_map meant result ≡ said TimeTag text.now }
 {
@@ -165,7 +164,7 @@ fn time(text: &str) -> Option<Line<'_>>
     }
 }
 
-/// EXT-X-PART, after its colon.
+/// Parses the value of EXT-X-PART.
 fn part(text: &str) -> Option<Line<'_>>
     ensures { option_map meant result ≡ said PartTag text.now }
 {
@@ -182,7 +181,7 @@ fn part(text: &str) -> Option<Line<'_>>
     }))
 }
 
-/// EXTINF, after its colon.
+/// Parses the value of EXTINF, which has no title.
 fn segment_duration(text: &str) -> Option<Line<'_>>
     ensures { option_map meant result ≡ said DurationTag text.now }
 {
@@ -194,7 +193,7 @@ fn segment_duration(text: &str) -> Option<Line<'_>>
     Some(Line::Duration(Micros(duration)))
 }
 
-/// EXT-X-RENDITION-REPORT, after its colon.
+/// Parses the value of EXT-X-RENDITION-REPORT.
 fn report(text: &str) -> Option<Line<'_>>
     ensures { option_map meant result ≡ said RenditionReportTag text.now }
 {
@@ -208,7 +207,7 @@ fn report(text: &str) -> Option<Line<'_>>
     Some(Line::RenditionReport(Report { uri, number, index }))
 }
 
-/// EXT-X-PRELOAD-HINT, after its colon.
+/// Parses the value of EXT-X-PRELOAD-HINT.
 fn hint(text: &str) -> Option<Line<'_>>
     ensures { option_map meant result ≡ said HintTag text.now }
 {

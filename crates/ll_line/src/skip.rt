@@ -1,4 +1,4 @@
-//! The line of what a delta update skips, of ids that stand apart.
+//! Writing of EXT-X-SKIP lines with a list of ids.
 ghost use Rattle.std.specs.Prelude.{◌≡◌, ◌++◌, ◌∷◌, IfOk, OnOk, flat_map, string_bytes};
 ghost use Rattle.std.specs.List.{join_with_byte};
 ghost use Rattle.std.specs.Option.{option_map};
@@ -10,8 +10,8 @@ use crate::writing::push_line;
 use ll_attr::Text;
 use std::alloc::{AllocError, Global};
 
-/// Adds the line of EXT-X-SKIP (section 4.4.5.2) that stands for so many segments, and tells the ids of these date ranges as removed
-/// recently, where it tells any.
+/// Appends the EXT-X-SKIP line (section 4.4.5.2) that skips `count` segments. `removed` are the ids of its RECENTLY-REMOVED-DATERANGES,
+/// or `None` for a line without.
 #[tactic(auto, using(crate::proofs::SkipLemmas::ids_told))]
 pub fn push_skip(
     alloc: Global,
@@ -35,7 +35,7 @@ pub fn push_skip(
     }
 }
 
-/// Ids with a tab between two of them.
+/// Returns `ids` separated by tabs.
 fn joined(alloc: Global, ids: &[Text]) -> Result<Text, AllocError>
     ensures { IfOk result (λ text. text ≡ join_with_byte 9 ids.now) }
 {
@@ -44,7 +44,7 @@ fn joined(alloc: Global, ids: &[Text]) -> Result<Text, AllocError>
     Ok(Text::from_string(text))
 }
 
-/// Adds ids with a tab between two of them.
+/// Appends `ids` separated by tabs.
 fn push_ids(text: &mut String, ids: &[Text]) -> Result<(), AllocError>
     ensures { OnOk result (string_bytes text.new ≡ string_bytes text.old ++ join_with_byte 9 ids.now) }
 {
@@ -57,7 +57,7 @@ fn push_ids(text: &mut String, ids: &[Text]) -> Result<(), AllocError>
     }
 }
 
-/// Adds ids with a tab before each of them.
+/// Appends `ids` with a tab before each.
 fn push_after_tabs(text: &mut String, ids: &[Text]) -> Result<(), AllocError>
     ensures { OnOk result (string_bytes text.new ≡ string_bytes text.old ++ flat_map (λ id. 9 ∷ id) ids.now) }
 {

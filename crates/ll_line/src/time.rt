@@ -1,3 +1,4 @@
+//! Times of lines.
 ghost use Rattle.std.specs.Prelude.{Some};
 ghost use Rattle.ll_line.specs.Meaning.{date_time_text};
 
@@ -7,9 +8,9 @@ use std::fmt;
 /// The time of an EXT-X-PROGRAM-DATE-TIME line (section 4.4.4.6).
 #[derive(Clone, Copy, Debug)]
 pub enum DateTime<'a> {
-    /// A moment.
+    /// The time itself.
     Utc(&'a UtcTime),
-    /// A moment that is spelled so.
+    /// The text of a time, as it was read.
     Text(&'a str),
 }
 

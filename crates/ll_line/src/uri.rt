@@ -1,20 +1,21 @@
+//! URIs of lines.
 ghost use Rattle.std.specs.Prelude.{Some};
 ghost use Rattle.ll_line.specs.Uris.{uri_text};
 
 use std::fmt;
 
-/// What a line of a playlist names. The first four are this origin's own choice.
+/// A URI in a line. How the first four are spelled is this origin's own choice.
 #[derive(Clone, Copy, Debug)]
 pub enum Uri<'a> {
-    /// The segment of this media sequence number.
+    /// The segment with this Media Sequence Number.
     Segment { number: u64 },
-    /// The part of this index in the segment of this media sequence number.
+    /// The part with this index in the segment with this Media Sequence Number.
     Part { number: u64, index: u64 },
-    /// The Media Initialization Section of this number.
+    /// The Media Initialization Section with this map number.
     Map { number: u64 },
-    /// The playlist of the rendition of this name, from that of another one.
+    /// The playlist of the rendition with this name, relative to that of another one.
     Rendition { name: &'a str },
-    /// What a text names.
+    /// Any URI, as its text.
     Text(&'a str),
 }
 

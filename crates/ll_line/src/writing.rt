@@ -1,4 +1,4 @@
-//! Lines, written.
+//! Writing of lines.
 ghost use Rattle.std.specs.Prelude.{◌≡◌, ◌++◌, OnOk, Some, string_bytes};
 ghost use Rattle.std.specs.Option.{option_map};
 ghost use Rattle.ll_format.specs.Format as format;
@@ -12,7 +12,7 @@ use crate::line::{Control, DateRange, Line, PartLine, Report, Skip};
 use std::alloc::AllocError;
 use std::fmt;
 
-/// Adds a line, with LF at its end.
+/// Appends `line` with LF at its end.
 #[tactic(auto, unfolding(crate::specs::Text::line_text))]
 pub fn push_line(text: &mut String, line: &Line<'_>) -> Result<(), AllocError>
     ensures { OnOk result (string_bytes text.new ≡ string_bytes text.old ++ line_text (meant line.now)) }
@@ -99,7 +99,7 @@ impl fmt::Display for Report<'_> {
     }
 }
 
-/// The texts around removed ids, and the ids, where they are told.
+/// Returns the text before the ids of RECENTLY-REMOVED-DATERANGES, the ids, and the text after them, all empty if there is no list.
 #[tactic(auto, using(ll_format::proofs::SeparatedLaws::joined_again))]
 fn removed_text(removed: Option<&str>) -> (&str, &str, &str)
     ensures { result.0.now ++ (result.1.now ++ result.2.now) ≡ spec.removed.print (option_map (λ ids. cut_at 9 ids.now) removed.entry) }
@@ -110,14 +110,14 @@ fn removed_text(removed: Option<&str>) -> (&str, &str, &str)
     }
 }
 
-/// The comma that stands before attributes, where there are any.
+/// Returns the comma before `attributes`, empty if there are none.
 fn comma_before(attributes: &str) -> &'static str
     ensures { result.now ++ attributes.now ≡ spec.attributes_text attributes.now }
 {
     if attributes.is_empty() { "" } else { "," }
 }
 
-/// This text, or nothing.
+/// Returns `text` if `stands`, else the empty text.
 fn flag_text<'a>(stands: bool, text: &'a str) -> &'a str
     ensures { result.now ≡ format.flag_text text.now stands }
 {

@@ -1,4 +1,4 @@
--- The boxes of some bytes are the front one and those of what stands after it.
+-- The boxes of some bytes are the front one and those of the bytes after it.
 use Rattle.std.proofs.Common.{◌≡◌, ℕ, zero, suc, ◌≤◌, ◌==◌, List, [], ◌∷◌, Bool, true, false, Option, Some, None, Ok, Err, refl, ap, sym, ◌∙◌, length, drop, nat_lt, length-drop, arith}
 use Rattle.std.proofs.lemmas.Bool.Decides.{nat_tests}
 use Rattle.byteorder.specs.Endian.{big_number}
@@ -11,7 +11,7 @@ use Rattle.ll_mp4.specs.declared.kind.Kind.{Kind}
 
 -- ---- a box has a byte at least
 
--- a header that is one belongs to a box of so many bytes or more
+-- a header without a fault belongs to a box of at least n bytes
 abbrev pub AtLeast : ℕ → Header → Type 0
 AtLeast n (Ok None) = 0 ≤ 0
 AtLeast n (Ok (Some head)) = n ≤ head.size
@@ -50,7 +50,7 @@ header_least bytes = by_length (nat_lt (length bytes) 8) refl
     by_length true e = rw e (omega arith)
     by_length false e = rw e (by-least (big_number 4 bytes) bytes)
 
--- fewer bytes stand after the front box
+-- fewer bytes follow the front box
 after-by : (n : ℕ) (bytes : List ℕ) (h : Header) → AtLeast 8 h → length bytes ≤ suc n → length (after (front_by h bytes)) ≤ n
 after-by n bytes (Ok None) a l = omega arith
 after-by n bytes (Err fault) a l = omega arith

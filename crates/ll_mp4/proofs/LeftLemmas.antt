@@ -6,7 +6,7 @@ use Rattle.std.proofs.Math.Seq.{drop-append-add, drop-nil}
 use Rattle.ll_mp4.specs.Boxes.{Front, Header, after, and_then, boxes, front_by, front_of, header_of}
 use Rattle.ll_mp4.specs.Lefts.{Left, at_front, dropped, fed, index_size, is_index, size_where, without_index}
 use Rattle.ll_mp4.specs.Units.{Unit, Open, unit_of}
-use Rattle.ll_mp4.specs.declared.boxes.Head.{Head}
+use Rattle.ll_mp4.specs.declared.boxes.BoxHead.{BoxHead}
 use Rattle.ll_mp4.proofs.BoxLemmas.{AtLeast, header_least, one_more}
 use Rattle.ll_mp4.proofs.MoreLemmas.{Same, header-same}
 use Rattle.ll_mp4.proofs.UnitLemmas.{short, unit_none}
@@ -87,7 +87,7 @@ index_front bytes = ap index_size (one_more bytes) ∙ by_length (length bytes =
         some : (length bytes == 0) ≡ false → front_of bytes ≡ front_by (header_of bytes) bytes
         some k = rw k refl
 
-index-is : (bytes : List ℕ) (head : Head) → header_of bytes ≡ Ok (Some head) → is_index head.kind ≡ true
+index-is : (bytes : List ℕ) (head : BoxHead) → header_of bytes ≡ Ok (Some head) → is_index head.kind ≡ true
     → index_in bytes ≡ head.size + index_in (drop head.size bytes)
 index-is bytes head e k = index_front bytes ∙ ap (index_by bytes) e ∙ ap (λ b. size_where b (head.size + index_in (drop head.size bytes))) k
 
@@ -98,7 +98,7 @@ IndexGoes bytes more = index_in (bytes ++ more) ≡ index_in bytes + index_in (d
 goes-none : (bytes more : List ℕ) → index_in bytes ≡ 0 → IndexGoes bytes more
 goes-none bytes more e = rw e (omega arith)
 
-goes-box : (bytes more : List ℕ) (head : Head) → header_of bytes ≡ Ok (Some head) → header_of (bytes ++ more) ≡ Ok (Some head)
+goes-box : (bytes more : List ℕ) (head : BoxHead) → header_of bytes ≡ Ok (Some head) → header_of (bytes ++ more) ≡ Ok (Some head)
     → (head.size ≤ length bytes → IndexGoes (drop head.size bytes) more) → IndexGoes bytes more
 goes-box bytes more head e f later = by_kind (is_index head.kind) refl
   where
@@ -170,7 +170,7 @@ without-dropped n bytes = by_length (nat_lt (length bytes) n) refl
         ap (λ m. dropped (m + index_in (drop m (drop n bytes))) (drop n bytes)) none ∙ ap (λ m. dropped m (drop n bytes)) same
         ∙ dropped-more n (index_in (drop n bytes)) bytes l
 
--- More bytes come to the same, whether or not they are dropped before.
+-- Adding bytes has the same result whether or not the `mfra` boxes are dropped before.
 pub without-fed : (left : Left) (more : List ℕ) → without_index (fed (without_index left) more) ≡ without_index (fed left more)
 without-fed left more =
     ap without_index (dropped-on m left.unread more) ∙ without-dropped m all ∙ ap (λ n. dropped n all) (same (nat_lt (length left.unread) left.skip) refl)
@@ -208,7 +208,7 @@ without-twice left = sym (without-none (without_index left)) ∙ without-fed lef
 
 -- ---- a unit at the front
 
--- bytes whose header has come have no `mfra` box at the front, whatever comes, where they have none
+-- bytes whose header has come and that have no `mfra` box at the front have none there whatever bytes follow
 stays-none : (bytes more : List ℕ) (h : Header) → header_of bytes ≡ h → Same h (header_of (bytes ++ more)) → AtLeast 8 h → index_in bytes ≡ 0
     → (h ≡ Ok None → ⊥) → index_in (bytes ++ more) ≡ 0
 stays-none bytes more (Ok None) e same least none whole = absurd (whole refl)
@@ -275,12 +275,12 @@ unit-fed left more shut =
 -- ---- one `mfra` box at the front
 
 -- all of which came, or not
-pub index_more : (bytes : List ℕ) (head : Head) → header_of bytes ≡ Ok (Some head) → is_index head.kind ≡ true → head.size ≤ length bytes
+pub index_more : (bytes : List ℕ) (head : BoxHead) → header_of bytes ≡ Ok (Some head) → is_index head.kind ≡ true → head.size ≤ length bytes
     → dropped (index_in bytes) bytes ≡ dropped (index_in (drop head.size bytes)) (drop head.size bytes)
 index_more bytes head e k whole =
     ap (λ n. dropped n bytes) (index-is bytes head e k) ∙ sym (dropped-more head.size (index_in (drop head.size bytes)) bytes whole)
 
-pub index_torn : (bytes : List ℕ) (head : Head) → header_of bytes ≡ Ok (Some head) → is_index head.kind ≡ true → length bytes < head.size
+pub index_torn : (bytes : List ℕ) (head : BoxHead) → header_of bytes ≡ Ok (Some head) → is_index head.kind ≡ true → length bytes < head.size
     → dropped (index_in bytes) bytes ≡ record { skip = head.size - length bytes; unread = [] }
 index_torn bytes head e k part =
     let nothing : index_in (drop head.size bytes) ≡ 0 = ap index_in (drop_all head.size bytes (omega (arith, part))) in

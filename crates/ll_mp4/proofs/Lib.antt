@@ -1,3 +1,4 @@
+-- Lemmas of boxes, units, movies and fragments, and the laws of splitters.
 mod BoxLemmas
 pub mod LeftLemmas
 mod RunLemmas

@@ -1,4 +1,4 @@
--- What is found at the front of bytes is found there whatever bytes follow.
+-- What is at the front of bytes is there whatever bytes follow.
 use Rattle.std.proofs.Common.{◌≡◌, ℕ, zero, suc, ◌+◌, ◌-◌, ◌≤◌, ◌<◌, ◌==◌, List, ◌++◌, Bool, true, false, Some, None, Ok, Err, refl, ap, sym, subst, ◌∙◌, length, drop, nat_lt, if◌then◌else◌, length-append, length-drop, arith}
 use borrow.Author.Tests.{ltb-false, ltb-true, le-ltb}
 use Rattle.std.proofs.lemmas.List.{drop-append-le}
@@ -6,14 +6,14 @@ use Rattle.byteorder.specs.Endian.{big_number}
 use Rattle.byteorder.specs.Numbers.{big_from-append}
 use Rattle.ll_mp4.specs.Boxes.{Header, boxes, header_by, header_of, large_header, sized}
 use Rattle.ll_mp4.specs.Units.{Unit, Open, Refused, Closed, is_last, size_limit, unit_from, unit_of}
-use Rattle.ll_mp4.specs.declared.boxes.Head.{Head}
-use Rattle.ll_mp4.specs.declared.fault.Fault.TheVariants.{BadBox}
+use Rattle.ll_mp4.specs.declared.boxes.BoxHead.{BoxHead}
+use Rattle.ll_mp4.specs.declared.fault.StreamFault.TheVariants.{BadBox}
 use Rattle.ll_mp4.proofs.BoxLemmas.{AtLeast, header_least}
 use Rattle.ll_mp4.proofs.UnitLemmas.{unit_large, unit_last, unit_more, unit_none, unit_open, unit_wrong}
 
 -- ---- headers
 
--- a header that has come, or isn't one, stays so
+-- a header that has come, or is refused, stays so
 abbrev pub Same : Header → Header → Type 0
 Same (Ok None) after = 0 ≤ 0
 Same (Ok (Some head)) after = after ≡ Ok (Some head)
@@ -87,8 +87,8 @@ header-same bytes more = by_length (nat_lt (length bytes) 8) refl
 
 -- ---- units
 
--- What a unit that goes on with so many bytes stays, whatever follows these: one that is closed has more bytes than stood before, and no more
--- than have come. Where it is open, few have come.
+-- A unit that goes on after `before` bytes stays what it is, whatever bytes follow: if it is closed, it has more than `before` bytes and no
+-- more than have come; if it is open, few have come.
 abbrev pub Stays : ℕ → ℕ → Unit → Unit → Type 0
 Stays before len Open after = before + len ≤ size_limit + 15
 Stays before len (Refused fault) after = after ≡ Refused fault
@@ -134,7 +134,7 @@ both before len u v unit after e f s = subst (λ x. Stays before len x v) (sym e
 abbrev GoesOn : ℕ → List ℕ → List ℕ → Type 0
 GoesOn before bytes more = Stays before (length bytes) (unit_from before (boxes bytes)) (unit_from before (boxes (bytes ++ more)))
 
-goes-head : (before : ℕ) (bytes more : List ℕ) (head : Head) → header_of bytes ≡ Ok (Some head) → header_of (bytes ++ more) ≡ Ok (Some head)
+goes-head : (before : ℕ) (bytes more : List ℕ) (head : BoxHead) → header_of bytes ≡ Ok (Some head) → header_of (bytes ++ more) ≡ Ok (Some head)
     → (head.size ≤ length bytes → before + head.size ≤ size_limit → GoesOn (before + head.size) (drop head.size bytes) more) → GoesOn before bytes more
 goes-head before bytes more head e f later = by_limit (nat_lt size_limit (before + head.size)) refl
   where

@@ -7,7 +7,7 @@ use Rattle.ll_mp4.specs.Samples as spec
 use Rattle.ll_mp4.specs.Samples.{Run, and_run, durations, run_of, run_ticks, runs_of, tick_limit}
 use Rattle.ll_mp4.specs.Numbers.{◌>>=◌}
 use Rattle.ll_mp4.specs.Runs.{after_samples, first_so_far}
-use Rattle.ll_mp4.specs.declared.fault.Fault.{Fault}
+use Rattle.ll_mp4.specs.declared.fault.StreamFault.{StreamFault}
 use Rattle.ll_mp4.specs.declared.kind.Kind.TheVariants.{Trun}
 use Rattle.ll_mp4.specs.declared.track.Track.{Track}
 
@@ -50,7 +50,7 @@ runs_done track end first rest e l =
 pub runs_ended : (track : Track) (tick : ℕ) (first : Option ℕ) → after_samples tick first (runs_of track Ended) ≡ Ok (record { ticks = min (tick + 0) tick_limit; flags = unwrap_or first track.flags })
 runs_ended track tick first = refl
 
-pub runs_bad : (track : Track) (tick : ℕ) (first : Option ℕ) (trun : List ℕ) (later : Contents) (fault : Fault) → run_of trun ≡ Err fault
+pub runs_bad : (track : Track) (tick : ℕ) (first : Option ℕ) (trun : List ℕ) (later : Contents) (fault : StreamFault) → run_of trun ≡ Err fault
     → after_samples tick first (runs_of track (Content trun later)) ≡ Err fault
 runs_bad track tick first trun later fault e = rw e refl
 
@@ -63,7 +63,7 @@ flags-more None track run flags = by_count (run.count == 0)
     by_count true = refl
     by_count false = refl
 
-samples-more : (track : Track) (tick : ℕ) (first : Option ℕ) (run : Run) (later : Result spec.Samples Fault)
+samples-more : (track : Track) (tick : ℕ) (first : Option ℕ) (run : Run) (later : Result spec.Samples StreamFault)
     → after_samples tick first (later >>= (λ rest. Ok (and_run track run rest)))
     ≡ after_samples (min (tick + run_ticks track run) tick_limit) (first_so_far first track run) later
 samples-more track tick first run (Err fault) = refl

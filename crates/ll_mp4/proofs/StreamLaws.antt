@@ -1,9 +1,9 @@
--- Whatever comes and whatever is called, the units that were given and those that are to come are those of all bytes.
+-- After any bytes and any calls, the units that were given and those still to come are those of all bytes.
 use Rattle.std.proofs.Common.{◌≡◌, ℕ, zero, suc, ◌+◌, ◌<◌, ◌≤◌, List, [], ◌∷◌, ◌++◌, Option, Some, None, Result, Ok, Err, refl, ap, sym, subst, ◌∙◌, length, take, drop, append_assoc, append-nil, take-append-drop, length-drop, arith, fold}
 use Rattle.std.proofs.lemmas.List.{take-append-le, drop-append-le}
 use Rattle.ll_mp4.specs.Lefts.{Left, at_front, fed, without_index}
 use Rattle.ll_mp4.specs.Units.{Unit, Open, Refused, Closed, size_limit, unit_of}
-use Rattle.ll_mp4.specs.declared.fault.Fault.{Fault}
+use Rattle.ll_mp4.specs.declared.fault.StreamFault.{StreamFault}
 use Rattle.ll_mp4.proofs.LeftLemmas.{IsShut, dropped-none, fed-on, index_in, unit-fed, without-fed, without-none}
 use Rattle.ll_mp4.proofs.MoreLemmas.{Stays, unit_stays}
 use Rattle.ll_mp4.specs.Laws.{AreThere, FewAreKept, FrontIsFirst, FrontStays, NothingIsLost, WholeStreams, after_given, given_then}
@@ -30,7 +30,7 @@ shrinks left given e =
 
 -- ---- the units of some bytes, one after another
 
-enough-by : (r : Result (Option (List ℕ)) Fault) (after : Left) (a b : Told) → ((given : List ℕ) → r ≡ Ok (Some given) → a ≡ b)
+enough-by : (r : Result (Option (List ℕ)) StreamFault) (after : Left) (a b : Told) → ((given : List ℕ) → r ≡ Ok (Some given) → a ≡ b)
     → and_told (r, after) a ≡ and_told (r, after) b
 enough-by (Err fault) after a b rest = refl
 enough-by (Ok None) after a b rest = refl
@@ -50,20 +50,20 @@ front_is_first left =
 
 -- ---- more bytes after the front unit
 
-abbrev later_of : Result (Option (List ℕ)) Fault × Left → Told
+abbrev later_of : Result (Option (List ℕ)) StreamFault × Left → Told
 later_of r = and_told r (told r.1)
 
 abbrev later_in : Left → Told
 later_in left = later_of (front_unit left (unit_of left.unread))
 
--- what is told is told without the `mfra` boxes at the front
+-- the units and the fault are the same without the `mfra` boxes at the front
 same-told : (left other : Left) → without_index left ≡ without_index other → told left ≡ told other
 same-told left other e = front_is_first left ∙ ap later_in e ∙ sym (front_is_first other)
 
 shut-by : (unit other : Unit) → unit ≡ other → IsShut other → IsShut unit
 shut-by unit other e shut open-unit = shut (sym e ∙ open-unit)
 
-refused-shut : (fault : Fault) → IsShut (Refused fault)
+refused-shut : (fault : StreamFault) → IsShut (Refused fault)
 refused-shut fault e = absurd (cc)
 
 closed-shut : (size : ℕ) → IsShut (Closed size)
@@ -90,8 +90,8 @@ front_stays left more = unit-goes left more (unit_of (cleared left)) refl (unit_
 abbrev Stands : Past → Type 0
 Stands p = (more : List ℕ) → told (at_front (p.taken ++ more)) ≡ after_given p.given (told (fed p.left more))
 
-next-stands : (given : List (List ℕ)) (left : Left) (more : List ℕ) (r : Result (Option (List ℕ)) Fault) (after : Left)
-    → told (fed left more) ≡ given_then more (r, after) → ((fault : Fault) → r ≡ Err fault → told (fed left more) ≡ told (fed after more))
+next-stands : (given : List (List ℕ)) (left : Left) (more : List ℕ) (r : Result (Option (List ℕ)) StreamFault) (after : Left)
+    → told (fed left more) ≡ given_then more (r, after) → ((fault : StreamFault) → r ≡ Err fault → told (fed left more) ≡ told (fed after more))
     → after_given given (told (fed left more)) ≡ after_given (and_unit given r) (told (fed after more))
 next-stands given left more (Err fault) after e same = ap (after_given given) (same fault refl)
 next-stands given left more (Ok None) after e same = ap (after_given given) e
@@ -99,8 +99,8 @@ next-stands given left more (Ok (Some unit)) after e same =
     ap (after_given given) e
     ∙ ap (λ us. record { units = us; fault = (told (fed after more)).fault }) (sym (append_assoc given (unit ∷ []) (told (fed after more)).units))
 
--- after a fault the same is told
-unit-same : (left : Left) (more : List ℕ) (unit : Unit) (fault : Fault) → (front_unit (without_index left) unit).0 ≡ Err fault
+-- after a fault, the same fault is returned
+unit-same : (left : Left) (more : List ℕ) (unit : Unit) (fault : StreamFault) → (front_unit (without_index left) unit).0 ≡ Err fault
     → told (fed left more) ≡ told (fed (front_unit (without_index left) unit).1 more)
 unit-same left more Open fault e = same-told (fed left more) (fed (without_index left) more) (sym (without-fed left more))
 unit-same left more (Refused other) fault e = same-told (fed left more) (fed (without_index left) more) (sym (without-fed left more))

@@ -4,11 +4,11 @@ use Rattle.ll_mp4.specs.Boxes.{Contents, Ended, Content}
 use Rattle.ll_mp4.specs.Movies.{listed_in, listed_of}
 use Rattle.ll_mp4.specs.Numbers.{◌>>=◌}
 use Rattle.ll_mp4.specs.Tracks.{scales_after}
-use Rattle.ll_mp4.specs.declared.fault.Fault.{Fault}
+use Rattle.ll_mp4.specs.declared.fault.StreamFault.{StreamFault}
 use Rattle.ll_mp4.specs.declared.track.Listed.{Listed}
 use Rattle.ll_mp4.specs.declared.track.TimeScale.{TimeScale}
 
-scales-more : (before : List TimeScale) (track : Listed) (later : Result (List Listed) Fault)
+scales-more : (before : List TimeScale) (track : Listed) (later : Result (List Listed) StreamFault)
     → scales_after before (later >>= (λ tracks. Ok (track ∷ tracks))) ≡ scales_after (before ++ track.scale ∷ []) later
 scales-more before track (Err fault) = refl
 scales-more before track (Ok tracks) = ap Ok (sym (append_assoc before (track.scale ∷ []) (map (λ (t : Listed). t.scale) tracks)))
@@ -17,7 +17,7 @@ scales-more before track (Ok tracks) = ap Ok (sym (append_assoc before (track.sc
 pub scales_more : (before : List TimeScale) (trak : List ℕ) (later : Contents) (track : Listed) → listed_of trak ≡ Ok track
     → scales_after before (listed_in (Content trak later)) ≡ scales_after (before ++ track.scale ∷ []) (listed_in later)
 scales_more before trak later track e =
-    ap (λ (r : Result Listed Fault). scales_after before (r >>= (λ t. listed_in later >>= (λ ts. Ok (t ∷ ts))))) e ∙ scales-more before track (listed_in later)
+    ap (λ (r : Result Listed StreamFault). scales_after before (r >>= (λ t. listed_in later >>= (λ ts. Ok (t ∷ ts))))) e ∙ scales-more before track (listed_in later)
 
 -- no more
 pub scales_done : (before : List TimeScale) → scales_after before (listed_in Ended) ≡ Ok before

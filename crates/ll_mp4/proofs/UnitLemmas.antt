@@ -4,9 +4,9 @@ use borrow.Author.Tests.{lt-ltb, le-ltb}
 use Rattle.std.proofs.lemmas.Bool.Decides.{nat_tests}
 use Rattle.ll_mp4.specs.Boxes.{Front, Header, and_then, after, boxes, front_by, front_of, header_of}
 use Rattle.ll_mp4.specs.Units.{Unit, Open, Refused, Closed, is_last, size_limit, unit_from, within}
-use Rattle.ll_mp4.specs.declared.boxes.Head.{Head}
-use Rattle.ll_mp4.specs.declared.fault.Fault.{Fault}
-use Rattle.ll_mp4.specs.declared.fault.Fault.TheVariants.{TooLarge}
+use Rattle.ll_mp4.specs.declared.boxes.BoxHead.{BoxHead}
+use Rattle.ll_mp4.specs.declared.fault.StreamFault.{StreamFault}
+use Rattle.ll_mp4.specs.declared.fault.StreamFault.TheVariants.{TooLarge}
 use Rattle.ll_mp4.proofs.BoxLemmas.{one_more}
 
 -- the unit that goes on with bytes that have this header
@@ -45,30 +45,30 @@ unit_front before bytes = ap (unit_from before) (one_more bytes) ∙ by_length (
         some : (length bytes == 0) ≡ false → front_of bytes ≡ front_by (header_of bytes) bytes
         some k = rw k refl
 
--- where the front box came whole: the unit goes on after it, or it is the last
-pub unit_more : (before : ℕ) (bytes : List ℕ) (head : Head) → header_of bytes ≡ Ok (Some head) → before + head.size ≤ size_limit → head.size ≤ length bytes
+-- if the front box came whole: the unit goes on after it, or it is the last
+pub unit_more : (before : ℕ) (bytes : List ℕ) (head : BoxHead) → header_of bytes ≡ Ok (Some head) → before + head.size ≤ size_limit → head.size ≤ length bytes
     → is_last head.kind ≡ false → unit_from before (boxes bytes) ≡ unit_from (before + head.size) (boxes (drop head.size bytes))
 unit_more before bytes head e few whole last =
     unit_front before bytes ∙ ap (unit_by before bytes) e ∙ rw (le-ltb size_limit (before + head.size) few, le-ltb (length bytes) head.size whole, last) refl
 
-pub unit_last : (before : ℕ) (bytes : List ℕ) (head : Head) → header_of bytes ≡ Ok (Some head) → before + head.size ≤ size_limit → head.size ≤ length bytes
+pub unit_last : (before : ℕ) (bytes : List ℕ) (head : BoxHead) → header_of bytes ≡ Ok (Some head) → before + head.size ≤ size_limit → head.size ≤ length bytes
     → is_last head.kind ≡ true → unit_from before (boxes bytes) ≡ Closed (before + head.size)
 unit_last before bytes head e few whole last =
     unit_front before bytes ∙ ap (unit_by before bytes) e ∙ rw (le-ltb size_limit (before + head.size) few, le-ltb (length bytes) head.size whole, last) refl
 
--- where it didn't, or has too many bytes
-pub unit_open : (before : ℕ) (bytes : List ℕ) (head : Head) → header_of bytes ≡ Ok (Some head) → before + head.size ≤ size_limit → length bytes < head.size
+-- if it didn't, or has too many bytes
+pub unit_open : (before : ℕ) (bytes : List ℕ) (head : BoxHead) → header_of bytes ≡ Ok (Some head) → before + head.size ≤ size_limit → length bytes < head.size
     → unit_from before (boxes bytes) ≡ Open
 unit_open before bytes head e few part =
     unit_front before bytes ∙ ap (unit_by before bytes) e ∙ rw (le-ltb size_limit (before + head.size) few, lt-ltb (length bytes) head.size part) refl
 
-pub unit_large : (before : ℕ) (bytes : List ℕ) (head : Head) → header_of bytes ≡ Ok (Some head) → size_limit < before + head.size
+pub unit_large : (before : ℕ) (bytes : List ℕ) (head : BoxHead) → header_of bytes ≡ Ok (Some head) → size_limit < before + head.size
     → unit_from before (boxes bytes) ≡ Refused TooLarge
 unit_large before bytes head e many = unit_front before bytes ∙ ap (unit_by before bytes) e ∙ rw (lt-ltb size_limit (before + head.size) many) refl
 
--- where no header came whole, or it is none
+-- if no whole header came, or it is refused
 pub unit_none : (before : ℕ) (bytes : List ℕ) → header_of bytes ≡ Ok None → unit_from before (boxes bytes) ≡ Open
 unit_none before bytes e = unit_front before bytes ∙ ap (unit_by before bytes) e
 
-pub unit_wrong : (before : ℕ) (bytes : List ℕ) (fault : Fault) → header_of bytes ≡ Err fault → unit_from before (boxes bytes) ≡ Refused fault
+pub unit_wrong : (before : ℕ) (bytes : List ℕ) (fault : StreamFault) → header_of bytes ≡ Err fault → unit_from before (boxes bytes) ≡ Refused fault
 unit_wrong before bytes fault e = unit_front before bytes ∙ ap (unit_by before bytes) e

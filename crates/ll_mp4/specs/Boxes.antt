@@ -1,23 +1,24 @@
--- The boxes that stand one after another in some bytes (ISO/IEC 14496-12, section 4.2).
+-- The boxes in some bytes, one after another (ISO/IEC 14496-12, section 4.2).
 use Rattle.std.specs.Prelude.{ℕ, zero, suc, ◌==◌, Bool, true, false, List, [], take, drop, length, nat_lt, if◌then◌else◌, Option, Some, None, Result, Ok, Err}
 use Rattle.byteorder.specs.Endian.{big_number}
 use Rattle.ll_mp4.specs.Kinds.{code}
-use Rattle.ll_mp4.specs.declared.boxes.Head.{Head}
+use Rattle.ll_mp4.specs.declared.boxes.BoxHead.{BoxHead}
 use Rattle.ll_mp4.specs.declared.kind.Kind.{Kind}
-use Rattle.ll_mp4.specs.declared.fault.Fault.{Fault}
-use Rattle.ll_mp4.specs.declared.fault.Fault.TheVariants.{BadBox, Missing, Several}
+use Rattle.ll_mp4.specs.declared.fault.StreamFault.{StreamFault}
+use Rattle.ll_mp4.specs.declared.fault.StreamFault.TheVariants.{BadBox, Missing, Several}
 
 -- ---- one box
 
--- the header at the front of some bytes; none, where bytes of it are missing
+-- the header at the front of some bytes, or none if some of its bytes are missing
 abbrev pub Header : Type 0
-Header = Result (Option Head) Fault
+Header = Result (Option BoxHead) StreamFault
 
--- A size that is less than the header's length is none. So is 0, which stands for a box that goes on to the end of the file.
+-- The header of a box with this size, or BadBox if the size is less than the header's length. So a size of 0, by which a box
+-- extends to the end of the file, is refused too.
 abbrev pub sized : ℕ → ℕ → ℕ → Header
 sized kind len size = if nat_lt size len then Err BadBox else Ok (Some (record { kind = kind; len = len; size = size }))
 
--- a size of 64 bits stands after the type
+-- the size has 64 bits and follows the type
 abbrev pub large_header : List ℕ → Header
 large_header bytes = if nat_lt (length bytes) 16 then Ok None else sized (big_number 4 (drop 4 bytes)) 16 (big_number 8 (drop 8 bytes))
 
@@ -32,7 +33,7 @@ header_of bytes = if nat_lt (length bytes) 8 then Ok None else header_by (big_nu
 pub data Front : Type 0 where
   -- there are no bytes
   Nothing : Front
-  -- it isn't whole, and this is its header
+  -- the box isn't whole, and has this header
   Part : Header → Front
   -- its type, its size, its content, and the bytes after it
   Whole : ℕ → ℕ → List ℕ → List ℕ → Front
@@ -62,18 +63,18 @@ and_then Nothing later = Done
 and_then (Part header) later = Torn header
 and_then (Whole kind size content rest) later = Box kind size content later
 
--- what stands after the front box
+-- the bytes after the front box
 abbrev pub after : Front → List ℕ
 after Nothing = []
 after (Part header) = []
 after (Whole kind size content rest) = rest
 
--- the first of these, up to a number of them
+-- the boxes, at most n of them
 abbrev pub boxes_by : ℕ → List ℕ → Boxes
 boxes_by zero bytes = Done
 boxes_by (suc n) bytes = and_then (front_of bytes) (boxes_by n (after (front_of bytes)))
 
--- each has a byte at least
+-- all boxes: each has a byte at least
 abbrev pub boxes : List ℕ → Boxes
 boxes bytes = boxes_by (length bytes) bytes
 
@@ -81,7 +82,7 @@ boxes bytes = boxes_by (length bytes) bytes
 
 pub data Contents : Type 0 where
   Ended : Contents
-  -- what stands after them isn't a whole box
+  -- what follows isn't a whole box
   Broken : Contents
   Content : List ℕ → Contents → Contents
 
@@ -89,7 +90,7 @@ abbrev pub and_content : Bool → List ℕ → Contents → Contents
 and_content true content later = Content content later
 and_content false content later = later
 
--- the contents of those of a type
+-- the contents of the boxes of a type
 abbrev pub contents : ℕ → Boxes → Contents
 contents kind Done = Ended
 contents kind (Torn header) = Broken
@@ -98,22 +99,22 @@ contents kind (Box k size content later) = and_content (k == kind) content (cont
 abbrev pub contents_in : Kind → List ℕ → Contents
 contents_in kind bytes = contents (code kind) (boxes bytes)
 
-abbrev pub at_most_one_of : Kind → Contents → Result (Option (List ℕ)) Fault
+abbrev pub at_most_one_of : Kind → Contents → Result (Option (List ℕ)) StreamFault
 at_most_one_of kind Ended = Ok None
 at_most_one_of kind Broken = Err BadBox
 at_most_one_of kind (Content content Ended) = Ok (Some content)
 at_most_one_of kind (Content content Broken) = Err BadBox
 at_most_one_of kind (Content content (Content other later)) = Err (Several kind)
 
--- the content of the box of a type, where there is one; that there are several is told before what stands after the second of them
-abbrev pub at_most_one : Kind → List ℕ → Result (Option (List ℕ)) Fault
+-- the content of the only box of a type, if there is one; that there are several comes before a fault after the second of them
+abbrev pub at_most_one : Kind → List ℕ → Result (Option (List ℕ)) StreamFault
 at_most_one kind bytes = at_most_one_of kind (contents_in kind bytes)
 
-abbrev pub only_of : Kind → Result (Option (List ℕ)) Fault → Result (List ℕ) Fault
+abbrev pub only_of : Kind → Result (Option (List ℕ)) StreamFault → Result (List ℕ) StreamFault
 only_of kind (Ok None) = Err (Missing kind)
 only_of kind (Ok (Some content)) = Ok content
 only_of kind (Err fault) = Err fault
 
 -- the content of the only box of a type
-abbrev pub only : Kind → List ℕ → Result (List ℕ) Fault
+abbrev pub only : Kind → List ℕ → Result (List ℕ) StreamFault
 only kind bytes = only_of kind (at_most_one kind bytes)

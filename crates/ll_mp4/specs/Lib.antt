@@ -1,3 +1,4 @@
+-- Definitions of boxes, units, movies and fragments.
 pub mod Boxes
 pub mod Elements
 pub mod Found

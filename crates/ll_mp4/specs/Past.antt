@@ -1,10 +1,11 @@
--- All that was done with a splitter, and what it came to.
+-- All calls of a splitter, and their result.
 use Rattle.std.specs.Prelude.{ℕ, List, [], ◌∷◌, ◌++◌, Option, Some, None, Result, Ok, Err, fold}
-use Rattle.ll_mp4.specs.declared.fault.Fault.{Fault}
+use Rattle.ll_mp4.specs.declared.fault.StreamFault.{StreamFault}
 use Rattle.ll_mp4.specs.Lefts.{Left, at_front, fed}
 use Rattle.ll_mp4.specs.Streams.{front}
 
--- a call that changes a splitter: `feed`, `next`. A `feed` that finds no memory changes nothing, and is left out
+-- a call that changes a splitter: `feed` or `next`; a `feed` that runs out of memory changes nothing, and is
+-- left out
 pub data Call : Type 0 where
   Feed : List ℕ → Call
   Next : Call
@@ -18,7 +19,7 @@ pub record Past : Type 0 where
 abbrev pub before_any : Past
 before_any = record { left = at_front []; taken = []; given = [] }
 
-abbrev pub and_unit : List (List ℕ) → Result (Option (List ℕ)) Fault → List (List ℕ)
+abbrev pub and_unit : List (List ℕ) → Result (Option (List ℕ)) StreamFault → List (List ℕ)
 and_unit units (Ok None) = units
 and_unit units (Ok (Some unit)) = units ++ unit ∷ []
 and_unit units (Err fault) = units

@@ -3,21 +3,22 @@ use Rattle.std.specs.Prelude.{ℕ, zero, suc, ◌+◌, ◌*◌, ◌==◌, not, B
 use Rattle.byteorder.specs.Endian.{big_number}
 use Rattle.ll_mp4.specs.Boxes.{Contents, Ended, Broken, Content}
 use Rattle.ll_mp4.specs.Numbers.{◌>>=◌, has, number_at, number_or, room}
-use Rattle.ll_mp4.specs.declared.fault.Fault.{Fault}
-use Rattle.ll_mp4.specs.declared.fault.Fault.TheVariants.{BadBox}
+use Rattle.ll_mp4.specs.declared.fault.StreamFault.{StreamFault}
+use Rattle.ll_mp4.specs.declared.fault.StreamFault.TheVariants.{BadBox}
 use Rattle.ll_mp4.specs.declared.track.Track.{Track}
 
 -- ---- defaults (section 8.8.7)
 
--- where the default duration stands, after a base offset and the index of a description, where these are there; and where the default flags do
+-- the place of the default duration, which follows the base offset and the index of a description if they are present; then that of the default
+-- flags
 abbrev pub duration_place : ℕ → ℕ
 duration_place flags = 8 + room flags 0x000001 8 + room flags 0x000002 4
 
 abbrev pub flags_place : ℕ → ℕ
 flags_place flags = duration_place flags + room flags 0x000008 4 + room flags 0x000010 4
 
--- the track with the defaults that hold in a fragment with this header
-abbrev pub defaults_of : Track → List ℕ → Result Track Fault
+-- `track` with the defaults of a fragment with this header
+abbrev pub defaults_of : Track → List ℕ → Result Track StreamFault
 defaults_of track tfhd = do
   flags ← number_at 0 tfhd
   duration ← number_or (has flags 0x000008) (duration_place flags) tfhd track.duration
@@ -26,29 +27,28 @@ defaults_of track tfhd = do
 
 -- ---- a run of samples (section 8.8.8)
 
--- the flags that say which fields stand, how many samples there are, the flags that the run tells for its first sample alone, and its
--- samples' fields
+-- the flags that say which fields are present, the number of samples, the flags of the first sample alone, and the fields of the samples
 pub record Run : Type 0 where
   pub flags : ℕ
   pub count : ℕ
   pub first : ℕ
   pub table : List ℕ
 
--- how many bytes the fields of a sample have: of its duration, its size, its flags and its composition offset those that stand
+-- the length in bytes of a sample's fields: its duration, its size, its flags and its composition offset, those that are present
 abbrev pub width : ℕ → ℕ
 width flags = room flags 0x000100 4 + room flags 0x000200 4 + room flags 0x000400 4 + room flags 0x000800 4
 
--- where the first sample's flags stand, after an offset where there is one; and where the fields of the samples do
+-- the place of the first sample's flags, which follow the data offset if it is present; then that of the samples' fields
 abbrev pub first_place : ℕ → ℕ
 first_place flags = 8 + room flags 0x000001 4
 
 abbrev pub table_place : ℕ → ℕ
 table_place flags = first_place flags + room flags 0x000004 4
 
-abbrev pub table_of : ℕ → ℕ → List ℕ → Result (List ℕ) Fault
+abbrev pub table_of : ℕ → ℕ → List ℕ → Result (List ℕ) StreamFault
 table_of flags count trun = if nat_lt (length trun) (table_place flags + count * width flags) then Err BadBox else Ok (drop (table_place flags) trun)
 
-abbrev pub run_of : List ℕ → Result Run Fault
+abbrev pub run_of : List ℕ → Result Run StreamFault
 run_of trun = do
   flags ← number_at 0 trun
   count ← number_at 4 trun
@@ -56,17 +56,17 @@ run_of trun = do
   table ← table_of flags count trun
   Ok (record { flags = flags; count = count; first = first; table = table })
 
--- the sum of the durations of some samples, by the bytes of a sample's fields, which begin with its duration, and by how many samples there are
+-- the sum of the durations of n samples, whose fields have `bytes` bytes each and begin with the duration
 abbrev pub durations : ℕ → ℕ → List ℕ → ℕ
 durations bytes zero table = 0
 durations bytes (suc n) table = big_number 4 table + durations bytes n (drop bytes table)
 
--- how many ticks a run has
+-- the duration of a run, in ticks
 abbrev pub run_ticks : Track → Run → ℕ
 run_ticks track run =
     if has run.flags 0x000100 then durations (width run.flags) run.count run.table else run.count * track.duration
 
--- where the flags of a sample stand among its fields
+-- the place of a sample's flags among its fields
 abbrev pub sample_place : ℕ → ℕ
 sample_place flags = room flags 0x000100 4 + room flags 0x000200 4
 
@@ -79,12 +79,12 @@ first_of track run =
 
 -- ---- all runs of a track's fragment
 
--- how many ticks the samples have, and the flags of the first of them
+-- the duration of the samples, in ticks, and the flags of the first of them
 pub record Samples : Type 0 where
   pub ticks : ℕ
   pub flags : ℕ
 
--- a run, and then the others
+-- a run before the others
 abbrev pub and_run : Track → Run → Samples → Samples
 and_run track run later = record {
   ticks = run_ticks track run + later.ticks;
@@ -92,7 +92,7 @@ and_run track run later = record {
 }
 
 -- the runs with these contents; without samples there are no ticks, and the flags are the defaults
-abbrev pub runs_of : Track → Contents → Result Samples Fault
+abbrev pub runs_of : Track → Contents → Result Samples StreamFault
 runs_of track Ended = Ok (record { ticks = 0; flags = track.flags })
 runs_of track Broken = Err BadBox
 runs_of track (Content trun later) = do

@@ -7,7 +7,7 @@ use Rattle.ll_mp4.specs.Movies.{MovieValue}
 use Rattle.ll_mp4.specs.Lefts.{at_front, fed}
 use Rattle.ll_mp4.specs.Streams.{end_fault, front, told}
 use Rattle.ll_mp4.specs.declared.element.Element.TheVariants.{Movie, Fragment, Beside}
-use Rattle.ll_mp4.specs.declared.fault.Fault.TheVariants.{BadBox, Cut, Missing, NoMoov, OtherTrack, Several}
+use Rattle.ll_mp4.specs.declared.fault.StreamFault.TheVariants.{BadBox, Cut, Missing, NoMoov, OtherTrack, Several}
 use Rattle.ll_mp4.specs.declared.kind.Kind.{Kind}
 use Rattle.ll_mp4.specs.declared.kind.Kind.TheVariants.{Moov, Trak, Tkhd, Mdia, Mdhd, Mvex, Trex, Moof, Traf, Tfhd, Trun, Mdat, Hdlr, Tfdt, Mfra}
 use Rattle.ll_mp4.specs.declared.timing.Moment.{Moment}
@@ -24,7 +24,7 @@ box kind content = word (length content + 8) ++ name kind ++ content
 
 -- ---- a movie
 
--- a track with an ID, its ticks a second and a type of media
+-- a track with an ID, a number of ticks in a second and a type of media
 abbrev pub trak : ℕ → ℕ → List ℕ → List ℕ
 trak id scale media =
     box Trak (box Tkhd (replicate 12 0 ++ word id) ++ box Mdia (box Mdhd (replicate 12 0 ++ word scale) ++ box Hdlr (replicate 8 0 ++ media)))
@@ -43,7 +43,7 @@ movie_value = record {
 
 -- ---- fragments
 
--- one of a track, with the default samples' number
+-- a fragment of a track, with a number of samples that have the defaults
 abbrev pub traf : ℕ → List ℕ → ℕ → List ℕ
 traf id tfdt samples = box Traf (box Tfhd (word 0 ++ word id) ++ tfdt ++ box Trun (word 0 ++ word samples))
 
@@ -54,7 +54,8 @@ short_time tick = box Tfdt (word 0 ++ word tick)
 abbrev pub long_time : ℕ → ℕ → List ℕ
 long_time high low = box Tfdt (word (2 ^ 24) ++ word high ++ word low)
 
--- one of pictures whose header says that samples are no sync samples, and whose two samples tell their durations
+-- a fragment of pictures whose header says that samples aren't sync samples, and whose two samples have their
+-- own durations
 abbrev pub own_durations : List ℕ
 own_durations =
     box Traf (box Tfhd (word 0x20 ++ word 2 ++ word 0x10000) ++ long_time 1 5 ++ box Trun (word 0x100 ++ word 2 ++ word 3 ++ word 4))
@@ -68,12 +69,12 @@ both = fragment (traf 1 (short_time 9) 7 ++ traf 2 (short_time 6) 3)
 abbrev pub sound : List ℕ
 sound = fragment (traf 1 (short_time 9) 7)
 
--- ---- what they tell
+-- ---- what they say
 
 abbrev pub timed : Option ℕ → ℕ → Timing
 timed time ticks = record { time = time; ticks = ticks; sync = true }
 
--- one of sound
+-- a decode time of sound
 abbrev pub moment : ℕ → Moment
 moment time = record { time = time; scale = 48000 }
 
@@ -109,16 +110,16 @@ pub record WorkedIndex : Type 0 where
   pub between :
       told (at_front (box Mfra [] ++ movie ++ box Mfra (word 5) ++ box Mfra [] ++ movie ++ box Mfra []))
       ≡ record { units = movie ∷ movie ∷ []; fault = None }
-  -- that came in two halves
+  -- an `mfra` box that comes in two halves
   pub first_half : front (at_front (movie ++ take 10 (box Mfra (word 5)))) ≡ (Ok (Some movie), at_front (take 10 (box Mfra (word 5))))
   pub dropped_half : front (at_front (take 10 (box Mfra (word 5)))) ≡ (Ok None, record { skip = 2; unread = [] })
   pub second_half : front (fed (record { skip = 2; unread = [] }) (0 ∷ 5 ∷ movie)) ≡ (Ok (Some movie), at_front [])
-  -- of 2^40 bytes, of which few came
+  -- an `mfra` box of 2^40 bytes, of which few came
   pub large : front (at_front (large_index (2 ^ 40) ++ codes "few")) ≡ (Ok None, record { skip = 2 ^ 40 - 19; unread = [] })
   pub large_on : front (fed (record { skip = 2 ^ 40; unread = [] }) (codes "more")) ≡ (Ok None, record { skip = 2 ^ 40 - 4; unread = [] })
-  -- torn where the input ends
+  -- torn at the end of the input
   pub torn : told (at_front (movie ++ take 10 (box Mfra (word 5)))) ≡ record { units = movie ∷ []; fault = Some Cut }
-  -- amid a unit
+  -- inside a unit
   pub amid : told (at_front (box Moof [] ++ box Mfra [] ++ box Mdat [])) ≡ record { units = (box Moof [] ++ box Mfra [] ++ box Mdat []) ∷ []; fault = None }
 
 pub record WorkedStream : Type 0 where

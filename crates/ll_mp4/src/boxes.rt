@@ -1,25 +1,25 @@
-//! Boxes (section 4.2).
+//! Reads boxes: their headers, and those of one type in the content of another (section 4.2).
 ghost use Rattle.std.specs.Prelude.{◌≡◌, ◌<◌, ◌≤◌, IfErr, IfOk, IfSome, MatchResult, Ok, Err, length, option_map};
 ghost use Rattle.ll_mp4.specs.Boxes as spec;
 ghost use Rattle.ll_mp4.specs.Boxes.{contents_in, front_of, header_of};
 ghost use Rattle.ll_mp4.specs.Found.{found, from_next, inner};
 
-use crate::fault::Fault;
+use crate::fault::StreamFault;
 use crate::kind::Kind;
 use byteorder::{BigEndian, ByteOrder};
 
 /// A box's header.
 #[derive(Clone, Copy, Debug, PartialEq, Eq)]
-pub struct Head {
-    /// The four bytes of the type as a number, the highest first.
+pub struct BoxHead {
+    /// The four bytes of the type as a big-endian number.
     pub kind: u32,
-    /// How many bytes the header has.
+    /// The length of the header, in bytes.
     pub len: usize,
-    /// How many bytes the box has, header and content.
+    /// The length of the box, in bytes: header and content.
     pub size: u64,
 }
 
-/// A box in the content of another, and what stands after it.
+/// A box in the content of another, and the bytes after it.
 #[derive(Clone, Copy)]
 pub(crate) struct Found<'a> {
     pub(crate) kind: u32,
@@ -27,11 +27,11 @@ pub(crate) struct Found<'a> {
     pub(crate) rest: &'a [u8],
 }
 
-/// Reads the header at the front of some bytes; none where bytes of it are missing.
-pub fn read_head(bytes: &[u8]) -> Result<Option<Head>, Fault>
+/// Reads the header at the front of `bytes`, or returns `None` if some of its bytes are missing.
+pub fn read_head(bytes: &[u8]) -> Result<Option<BoxHead>, StreamFault>
     ensures told { result ≡ header_of bytes.now }
     ensures least { IfOk result (λ head. IfSome head (λ h. 8 ≤ h.size)) }
-    ensures fault { IfErr result (λ fault. fault ≡ Fault.BadBox) }
+    ensures fault { IfErr result (λ fault. fault ≡ StreamFault.BadBox) }
 {
     if bytes.len() < 8 {
         return Ok(None);
@@ -47,32 +47,32 @@ pub fn read_head(bytes: &[u8]) -> Result<Option<Head>, Fault>
     sized(kind, 16, BigEndian::read_u64(&bytes[8..]))
 }
 
-/// Returns the header of a box, which is no smaller than its header.
-fn sized(kind: u32, len: usize, size: u64) -> Result<Option<Head>, Fault>
+/// Returns the header of a box of `size` bytes, or `BadBox` if that is less than the header's `len`.
+fn sized(kind: u32, len: usize, size: u64) -> Result<Option<BoxHead>, StreamFault>
     ensures told { result ≡ spec.sized kind len size }
     ensures least { IfOk result (λ head. IfSome head (λ h. len ≤ h.size)) }
-    ensures fault { IfErr result (λ fault. fault ≡ Fault.BadBox) }
+    ensures fault { IfErr result (λ fault. fault ≡ StreamFault.BadBox) }
 {
     if size < len as u64 {
-        return Err(Fault::BadBox);
+        return Err(StreamFault::BadBox);
     }
-    Ok(Some(Head { kind, len, size }))
+    Ok(Some(BoxHead { kind, len, size }))
 }
 
-/// Reads the box at the front of bytes that hold boxes alone; none where there are no bytes.
-pub(crate) fn read_front(bytes: &[u8]) -> Result<Option<Found<'_>>, Fault>
+/// Reads the box at the front of `bytes`, which must be whole boxes; returns `None` if `bytes` are empty.
+pub(crate) fn read_front(bytes: &[u8]) -> Result<Option<Found<'_>>, StreamFault>
     ensures told { found result ≡ inner (front_of bytes.now) }
-    ensures fault { IfErr result (λ fault. fault ≡ Fault.BadBox) }
+    ensures fault { IfErr result (λ fault. fault ≡ StreamFault.BadBox) }
     ensures shorter { IfOk result (λ front. IfSome front (λ f. length f.rest.now < length bytes.now)) }
 {
     if bytes.is_empty() {
         return Ok(None);
     }
     let Some(head) = read_head(bytes)? else {
-        return Err(Fault::BadBox);
+        return Err(StreamFault::BadBox);
     };
     if (bytes.len() as u64) < head.size {
-        return Err(Fault::BadBox);
+        return Err(StreamFault::BadBox);
     }
     let (front, rest) = bytes.split_at(head.size as usize);
     let (_, content) = front.split_at(head.len);
@@ -83,11 +83,11 @@ pub(crate) fn read_front(bytes: &[u8]) -> Result<Option<Found<'_>>, Fault>
     }))
 }
 
-/// Finds the first box of a type: returns its content, and what stands after it.
+/// Finds the first box of type `kind` in `bytes`, and returns its content and what follows it.
 #[tactic(auto, using(crate::proofs::BoxLemmas::contents_front))]
-pub fn next_of(kind: Kind, bytes: &[u8]) -> Result<Option<(&[u8], &[u8])>, Fault>
+pub fn next_of(kind: Kind, bytes: &[u8]) -> Result<Option<(&[u8], &[u8])>, StreamFault>
     ensures told { contents_in kind bytes.now ≡ from_next kind result }
-    ensures fault { IfErr result (λ fault. fault ≡ Fault.BadBox) }
+    ensures fault { IfErr result (λ fault. fault ≡ StreamFault.BadBox) }
     ensures shorter { IfOk result (λ next. IfSome next (λ n. length n.1.now < length bytes.now)) }
 {
     let code = kind.code();
@@ -101,8 +101,9 @@ pub fn next_of(kind: Kind, bytes: &[u8]) -> Result<Option<(&[u8], &[u8])>, Fault
     Ok(None)
 }
 
-/// Finds the box of a type, of which there may be one at most, and returns its content.
-pub fn at_most_one(kind: Kind, bytes: &[u8]) -> Result<Option<&[u8]>, Fault>
+/// Finds the box of type `kind` in `bytes`, of which at most one is allowed, and returns its content. Fails
+/// with `BadBox` or `Several(kind)`.
+pub fn at_most_one(kind: Kind, bytes: &[u8]) -> Result<Option<&[u8]>, StreamFault>
     ensures { MatchResult result (λ content. spec.at_most_one kind bytes.now ≡ Ok (option_map (λ c. c.now) content))
         (λ fault. spec.at_most_one kind bytes.now ≡ Err fault) }
 {
@@ -111,16 +112,17 @@ pub fn at_most_one(kind: Kind, bytes: &[u8]) -> Result<Option<&[u8]>, Fault>
     };
     match next_of(kind, rest)? {
         None => Ok(Some(content)),
-        Some(_) => Err(Fault::Several(kind)),
+        Some(_) => Err(StreamFault::Several(kind)),
     }
 }
 
-/// Finds the only box of a type, and returns its content.
-pub fn only(kind: Kind, bytes: &[u8]) -> Result<&[u8], Fault>
+/// Finds the only box of type `kind` in `bytes`, and returns its content. Fails with `BadBox`,
+/// `Several(kind)` or `Missing(kind)`.
+pub fn only(kind: Kind, bytes: &[u8]) -> Result<&[u8], StreamFault>
     ensures { MatchResult result (λ content. spec.only kind bytes.now ≡ Ok content.now) (λ fault. spec.only kind bytes.now ≡ Err fault) }
 {
     match at_most_one(kind, bytes)? {
         Some(content) => Ok(content),
-        None => Err(Fault::Missing(kind)),
+        None => Err(StreamFault::Missing(kind)),
     }
 }

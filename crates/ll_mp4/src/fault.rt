@@ -1,12 +1,13 @@
+//! The faults of an encoder's bytes.
 use crate::kind::Kind;
 use std::alloc::AllocError;
 use thiserror::Error;
 
-/// Why an encoder's bytes are refused.
+/// The reason for which an encoder's bytes are refused.
 #[derive(Clone, Copy, Debug, PartialEq, Eq, Error)]
-pub enum Fault {
-    /// A box whose size is less than that of its header (also 0, which has it go on to the end of the file), that ends after the box around it, or
-    /// that is too short for its fields.
+pub enum StreamFault {
+    /// A box whose size is less than that of its header (also 0, by which a box extends to the end of the file), that ends after the box around it,
+    /// or that is too short for its fields.
     #[error("a box that isn't one")]
     BadBox,
     /// A unit, which is an initialization section or a fragment, of more than 1,048,576 bytes.
@@ -15,37 +16,37 @@ pub enum Fault {
     /// A fragment, or samples, before the movie.
     #[error("a fragment before the moov box")]
     NoMoov,
-    /// Where one box of this type has to stand, none does: a movie without a track or its defaults, a fragment without a track's, or, before a
-    /// movie or where the input ends, a fragment without samples after it.
+    /// No box of this type where one is required: a movie without a track or its defaults, a fragment without a track's, or, before a movie or at
+    /// the end of the input, a fragment without samples after it.
     #[error("no {0} box")]
     Missing(Kind),
-    /// Where one box of this type may stand, several do: two fragments without samples between them, or a fragment with two of the governing track.
+    /// Several boxes of this type where one is allowed: two fragments without samples between them, or a fragment with two of the governing track.
     #[error("several {0} boxes")]
     Several(Kind),
-    /// A track's time scale is 0.
+    /// A track with a time scale of 0.
     #[error("a time scale of 0")]
     NoTimeScale,
     /// A fragment of a track that the movie doesn't have.
     #[error("a fragment of another track")]
     OtherTrack,
-    /// A fragment that ends past what can be counted, or with which times begin anew and that is longer than a part may be.
+    /// A fragment that ends past what can be counted, or that is longer than a part is allowed to be and begins a run or is a part by itself.
     #[error("a fragment that is too long")]
     TooLong,
-    /// The input ends in the midst of a box.
+    /// An input that ends inside a box.
     #[error("the input ends in the midst of a box")]
     Cut,
-    /// No memory was found.
+    /// Out of memory.
     #[error("out of memory")]
     Memory,
 }
 
-impl From<AllocError> for Fault {
+impl From<AllocError> for StreamFault {
     ghost use Rattle.std.specs.Prelude.{◌≡◌};
-    ghost use Rattle.ll_mp4.specs.declared.fault.Fault.TheVariants.{Memory};
+    ghost use Rattle.ll_mp4.specs.declared.fault.StreamFault.TheVariants.{Memory};
 
     ghost from_gives = { λ error fault. fault ≡ Memory };
 
-    fn from(_error: AllocError) -> Fault {
-        Fault::Memory
+    fn from(_error: AllocError) -> StreamFault {
+        StreamFault::Memory
     }
 }

@@ -1,12 +1,13 @@
+//! The types of the boxes that are read.
 ghost use Rattle.std.specs.Prelude.{◌≡◌};
 ghost use Rattle.ll_mp4.specs.Kinds.{code, name};
 
 use std::fmt;
 
-/// The types of boxes that are looked at.
+/// The type of a box that is read.
 #[derive(Clone, Copy, Debug, PartialEq, Eq)]
 pub enum Kind {
-    /// The movie: what its unit ends with (section 8.2.1).
+    /// The movie, with which its unit ends (section 8.2.1).
     Moov,
     /// A track (section 8.3.1).
     Trak,
@@ -16,7 +17,7 @@ pub enum Kind {
     Mdia,
     /// A media header, with its time scale (section 8.4.2).
     Mdhd,
-    /// What says that a movie has fragments (section 8.8.1).
+    /// The defaults of a movie's fragments (section 8.8.1).
     Mvex,
     /// The defaults of a track's fragments (section 8.8.3).
     Trex,
@@ -28,7 +29,7 @@ pub enum Kind {
     Tfhd,
     /// A run of samples (section 8.8.8).
     Trun,
-    /// Samples: what a fragment's unit ends with (section 8.1.1).
+    /// Samples, with which a fragment's unit ends (section 8.1.1).
     Mdat,
     /// A handler, with the type of a track's media (section 8.4.3).
     Hdlr,
@@ -45,7 +46,7 @@ pub enum Kind {
 }
 
 impl Kind {
-    /// Returns the four bytes of the type as a number, the highest first.
+    /// Returns the four bytes of the type as a big-endian number.
     #[tactic(auto, unfolding(crate::specs::Kinds::code))]
     pub fn code(self) -> u32
         ensures { result ≡ code self }
@@ -72,7 +73,7 @@ impl Kind {
         }
     }
 
-    /// Returns the type as it is written.
+    /// Returns the four characters of the type.
     pub fn name(self) -> &'static str
         ensures { result.now ≡ name self }
     {

@@ -1,4 +1,4 @@
-//! Fragmented MP4 (ISO/IEC 14496-12) as it comes from an encoder: its boxes, the units that they make, and what a unit tells of a movie or of a
+//! Fragmented MP4 (ISO/IEC 14496-12) as it comes from an encoder: its boxes, the units that they make, and what a unit says of a movie or of a
 //! fragment's time.
 #![tactic(auto)]
 
@@ -17,9 +17,9 @@ mod track;
 mod tracks;
 mod units;
 
-pub use boxes::{Head, at_most_one, next_of, only, read_head};
+pub use boxes::{BoxHead, at_most_one, next_of, only, read_head};
 pub use element::{Element, read_element};
-pub use fault::Fault;
+pub use fault::StreamFault;
 pub use kind::Kind;
 pub use laws::{splitter_law, worked_stream};
 pub use movie::{Movie, read_movie};

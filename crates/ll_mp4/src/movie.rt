@@ -1,10 +1,10 @@
-//! A movie (section 8.2.1).
+//! Reads a movie: the time scales of its tracks and the governing one (section 8.2.1).
 ghost use Rattle.std.specs.Prelude.{◌≡◌, IsOk};
 ghost use Rattle.ll_mp4.specs.Meaning.{AnswersButForMemory};
 ghost use Rattle.ll_mp4.specs.Movies as spec;
 ghost use Rattle.ll_mp4.specs.Movies.{movie_of};
 
-use crate::fault::Fault;
+use crate::fault::StreamFault;
 use crate::track::{TimeScale, Track};
 use crate::tracks::{read_governing, read_scales};
 use std::alloc::Global;
@@ -26,7 +26,7 @@ impl Model for Movie {
 }
 
 impl Movie {
-    /// Returns the track that governs.
+    /// Returns the governing track.
     pub fn governing(&self) -> Track
         ensures { result ≡ self.now.governing }
     {
@@ -51,8 +51,8 @@ impl Movie {
     }
 }
 
-/// Reads the movie whose box has the content `moov`. It fails where no memory is found for one that has no other fault.
-pub fn read_movie(alloc: Global, moov: &[u8]) -> Result<Movie, Fault>
+/// Reads the movie whose box has the content `moov`. Runs out of memory only for one that has no other fault.
+pub fn read_movie(alloc: Global, moov: &[u8]) -> Result<Movie, StreamFault>
     ensures { AnswersButForMemory (movie_of moov.now) (IsOk (movie_of moov.now)) result }
 {
     let governing = read_governing(moov)?;

@@ -1,4 +1,4 @@
-//! The samples of a track's fragment (section 8.8.6).
+//! Reads the samples of a track's fragment: their defaults, and its runs (section 8.8.6).
 ghost use Rattle.std.specs.Prelude.{◌≡◌, ◌≤◌, ◌+◌, ◌*◌, IfOk, MatchResult, Ok, Err, None, length, min, true};
 ghost use Rattle.ll_mp4.specs.Boxes.{contents_in};
 ghost use Rattle.ll_mp4.specs.Samples as spec;
@@ -8,37 +8,37 @@ ghost use Rattle.ll_mp4.specs.Runs.{after_samples, first_so_far, run_value};
 ghost use Rattle.ll_mp4.specs.declared.kind.Kind.TheVariants.{Trun};
 
 use crate::boxes::next_of;
-use crate::fault::Fault;
+use crate::fault::StreamFault;
 use crate::flags as flag;
 use crate::kind::Kind;
 use crate::numbers::{has, number_at, number_or, room};
 use crate::track::Track;
 use byteorder::{BigEndian, ByteOrder};
 
-/// The samples of a track's fragment.
+/// The samples of a track's fragment, taken together.
 #[derive(Clone, Copy)]
 pub(crate) struct Samples {
-    /// How many ticks they last; 2^64 - 1 where that is not less.
+    /// The sum of their durations, in ticks, at most 2^64 - 1.
     pub(crate) ticks: u64,
-    /// The flags of the first of them, or the defaults where there is none.
+    /// The flags of the first of them, or the defaults if there is none.
     pub(crate) flags: u32,
 }
 
 /// A run of samples (section 8.8.8).
 #[derive(Clone, Copy)]
 struct Run<'a> {
-    /// Which fields stand.
+    /// The flags that say which fields are present.
     flags: u32,
-    /// How many samples it has.
+    /// The number of its samples.
     count: u32,
-    /// The flags that it tells for its first sample alone.
+    /// The flags of its first sample alone, or 0 if it has none.
     first: u32,
     /// The fields of its samples.
     table: &'a [u8],
 }
 
-/// Returns a track with the defaults that hold in a fragment with the header `tfhd` (section 8.8.7).
-pub(crate) fn defaults_of(track: &Track, tfhd: &[u8]) -> Result<Track, Fault>
+/// Returns `track` with the defaults of a fragment with the header `tfhd` (section 8.8.7).
+pub(crate) fn defaults_of(track: &Track, tfhd: &[u8]) -> Result<Track, StreamFault>
     ensures { result ≡ spec.defaults_of track.now tfhd.now }
 {
     let flags = number_at(0, tfhd)?;
@@ -65,9 +65,9 @@ pub(crate) fn defaults_of(track: &Track, tfhd: &[u8]) -> Result<Track, Fault>
     })
 }
 
-/// Reads the samples of a track's fragment.
+/// Reads the samples of a track's fragment, whose box has the content `traf`.
 #[tactic(auto, using(crate::proofs::RunLemmas::runs_ended, crate::proofs::RunLemmas::runs_more, crate::proofs::RunLemmas::runs_bad))]
-pub(crate) fn read_runs(track: &Track, traf: &[u8]) -> Result<Samples, Fault>
+pub(crate) fn read_runs(track: &Track, traf: &[u8]) -> Result<Samples, StreamFault>
     ensures { result ≡ after_samples 0 None (spec.runs_of track.now (contents_in Trun traf.now)) }
 {
     let mut ticks = 0;
@@ -85,8 +85,8 @@ pub(crate) fn read_runs(track: &Track, traf: &[u8]) -> Result<Samples, Fault>
     })
 }
 
-/// Reads a run, whose samples' fields all stand.
-fn read_run(trun: &[u8]) -> Result<Run<'_>, Fault>
+/// Reads a run. Fails with `BadBox` if fields of its samples are missing.
+fn read_run(trun: &[u8]) -> Result<Run<'_>, StreamFault>
     ensures run { MatchResult result (λ run. spec.run_of trun.now ≡ Ok (run_value run)) (λ fault. spec.run_of trun.now ≡ Err fault) }
     ensures enough { IfOk result (λ run. run.count * spec.width run.flags ≤ length run.table.now) }
 {
@@ -103,8 +103,8 @@ fn read_run(trun: &[u8]) -> Result<Run<'_>, Fault>
     })
 }
 
-/// Returns the fields of `count` samples, which have to be there.
-fn table_of(flags: u32, count: u32, trun: &[u8]) -> Result<&[u8], Fault>
+/// Returns the fields of `count` samples. Fails with `BadBox` if some are missing.
+fn table_of(flags: u32, count: u32, trun: &[u8]) -> Result<&[u8], StreamFault>
     ensures table { MatchResult result (λ table. spec.table_of flags count trun.now ≡ Ok table.now) (λ fault. spec.table_of flags count trun.now ≡ Err fault) }
     ensures enough { IfOk result (λ table. count * spec.width flags ≤ length table.now) }
 {
@@ -113,12 +113,12 @@ fn table_of(flags: u32, count: u32, trun: &[u8]) -> Result<&[u8], Fault>
         + room(flags, flag::FIRST_FLAGS, 4)) as usize;
     let bytes = count as usize * width(flags) as usize;
     if trun.len() < place + bytes {
-        return Err(Fault::BadBox);
+        return Err(StreamFault::BadBox);
     }
     Ok(&trun[place..])
 }
 
-/// Returns how many bytes the fields of a sample have.
+/// Returns the length of one sample's fields, in bytes.
 fn width(flags: u32) -> u32
     ensures told { result ≡ spec.width flags }
     ensures few { result ≤ 16 }
@@ -129,7 +129,7 @@ fn width(flags: u32) -> u32
         + room(flags, flag::OFFSET, 4)
 }
 
-/// Returns the tick at which a run ends that begins at `from`; 2^64 - 1 at most.
+/// Returns the tick at which `run` ends if it begins at `from`, at most 2^64 - 1.
 fn run_end(from: u64, track: &Track, run: &Run<'_>) -> u64
     requires { run.now.count * spec.width run.now.flags ≤ length run.now.table.now }
     ensures { result ≡ min (from + spec.run_ticks track.now (run_value run.now)) tick_limit }
@@ -141,7 +141,7 @@ fn run_end(from: u64, track: &Track, run: &Run<'_>) -> u64
     }
 }
 
-/// Returns the tick at which a run of samples that tell their durations ends that begins at `from`; 2^64 - 1 at most.
+/// Returns the tick at which `run`, whose samples have their own durations, ends if it begins at `from`, at most 2^64 - 1.
 fn samples_end(from: u64, run: &Run<'_>) -> u64
     requires stand { has run.now.flags 0x000100 ≡ true }
     requires enough { run.now.count * spec.width run.now.flags ≤ length run.now.table.now }
@@ -157,7 +157,7 @@ fn samples_end(from: u64, run: &Run<'_>) -> u64
     tick
 }
 
-/// Returns the flags of the first sample of the runs so far, of which `run` is the last; none where these have no samples.
+/// Returns the flags of the first sample of the runs up to `run`, or `None` if they have no samples.
 fn first_so_far(first: Option<u32>, track: &Track, run: &Run<'_>) -> Option<u32>
     requires { run.now.count * spec.width run.now.flags ≤ length run.now.table.now }
     ensures { result ≡ first_so_far first track.now (run_value run.now) }
@@ -168,7 +168,7 @@ fn first_so_far(first: Option<u32>, track: &Track, run: &Run<'_>) -> Option<u32>
     Some(first_flags(track, run))
 }
 
-/// Returns the flags of the first sample of a run that has one.
+/// Returns the flags of the first sample of `run`, which has one.
 fn first_flags(track: &Track, run: &Run<'_>) -> u32
     requires some { 1 ≤ run.now.count }
     requires enough { run.now.count * spec.width run.now.flags ≤ length run.now.table.now }

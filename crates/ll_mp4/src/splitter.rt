@@ -1,4 +1,4 @@
-//! The bytes of an encoder as they come.
+//! Splits the bytes of an encoder into units, as they come.
 ghost use Rattle.std.specs.Prelude.{◌≡◌, [], MatchResult, None, Some};
 ghost use Rattle.std.specs.Borrow.{sem};
 ghost use Rattle.std.specs.Io.BufRead.{Rests};
@@ -8,7 +8,7 @@ ghost use Rattle.ll_mp4.specs.Streams.{end_fault, front};
 ghost use Rattle.ll_mp4.specs.contracts.splitter.Splitter.{the_row};
 
 use crate::boxes::only;
-use crate::fault::Fault;
+use crate::fault::StreamFault;
 use crate::kind::Kind;
 use crate::units::{after_index, read_unit};
 use std::alloc::Global;
@@ -19,9 +19,9 @@ use std::marker::Model;
 #[derive(Drop)]
 pub struct Splitter {
     bytes: Vec<u8>,
-    /// How many of the bytes were given out or dropped.
+    /// The number of the bytes that were given out or dropped.
     at: usize,
-    /// How many of the bytes that are still to come are to be dropped.
+    /// The number of the next bytes to be dropped as they come.
     skip: u64,
 }
 
@@ -37,7 +37,7 @@ impl Model for Splitter {
 }
 
 impl Splitter {
-    /// Returns a splitter to which no bytes came yet.
+    /// Makes a splitter that has no bytes.
     pub fn new(alloc: Global) -> Splitter
         ensures { result ≡ at_front [] }
     {
@@ -48,9 +48,9 @@ impl Splitter {
         }
     }
 
-    /// Adds `bytes`, which came. It fails where no memory is found, and then changes nothing.
-    pub fn feed(&mut self, bytes: &[u8]) -> Result<(), Fault>
-        ensures { MatchResult result (λ _. self.new ≡ fed self.old bytes.now) (λ fault. (fault ≡ Fault.Memory) × (self.new ≡ self.old)) }
+    /// Appends `bytes`, the next of the input. If it fails, nothing changes.
+    pub fn feed(&mut self, bytes: &[u8]) -> Result<(), StreamFault>
+        ensures { MatchResult result (λ _. self.new ≡ fed self.old bytes.now) (λ fault. (fault ≡ StreamFault.Memory) × (self.new ≡ self.old)) }
     {
         self.forget_given();
         let dropped = self.skip.min(bytes.len() as u64);
@@ -60,13 +60,13 @@ impl Splitter {
                 self.skip -= dropped;
                 Ok(())
             }
-            Err(_) => Err(Fault::Memory),
+            Err(_) => Err(StreamFault::Memory),
         }
     }
 
-    /// Returns the unit at the front, which then is given out: the boxes up to the end of the first that is a `moov` or an `mdat`; nothing, where
-    /// not all of it has come. `mfra` boxes before it are dropped. A fault changes nothing else, so that it is told again. It takes no memory.
-    pub fn next(&mut self) -> Result<Option<&[u8]>, Fault>
+    /// Takes the unit at the front: the boxes up to the end of the first `moov` or `mdat` box. Returns `None` if not all of it has come. Drops `mfra`
+    /// boxes before it. Fails with `BadBox` or `TooLarge`; a fault changes nothing else, so it is returned again. It takes no memory.
+    pub fn next(&mut self) -> Result<Option<&[u8]>, StreamFault>
         ensures* left { sem 𝓛 (Rests the_row self.entry (λ left. left ≡ (front self.old).1)) }
         ensures unit { given result ≡ (front self.old).0 }
     {
@@ -80,18 +80,18 @@ impl Splitter {
         Ok(Some(unit))
     }
 
-    /// Tells what is wrong where the input ends now, after all units were given out: it ends in the midst of a box, also of an `mfra`, or a `moof` has
-    /// no `mdat`. Whole boxes that belong to no unit are nothing wrong.
-    pub fn finish(&self) -> Result<(), Fault>
+    /// Returns what is wrong if the input ends now, after all units were taken: `Cut` if it ends inside a box, even an `mfra`, or `Missing(Mdat)` if
+    /// a `moof` has no `mdat`. Whole boxes that belong to no unit are allowed.
+    pub fn finish(&self) -> Result<(), StreamFault>
         ensures { MatchResult result (λ _. end_fault self.now ≡ None) (λ fault. end_fault self.now ≡ Some fault) }
     {
         if self.skip > 0 {
-            return Err(Fault::Cut);
+            return Err(StreamFault::Cut);
         }
         match only(Kind::Moof, &self.bytes[self.at..]) {
-            Err(Fault::Missing(_)) => Ok(()),
-            Err(Fault::BadBox) => Err(Fault::Cut),
-            _ => Err(Fault::Missing(Kind::Mdat)),
+            Err(StreamFault::Missing(_)) => Ok(()),
+            Err(StreamFault::BadBox) => Err(StreamFault::Cut),
+            _ => Err(StreamFault::Missing(Kind::Mdat)),
         }
     }
 
@@ -107,7 +107,7 @@ impl Splitter {
         self.skip = skip;
     }
 
-    /// Drops the bytes that were given out, once they are more than the others: so fewer bytes are moved than are dropped.
+    /// Drops the bytes that were given out once they are more than the others, so that fewer bytes are moved than dropped.
     fn forget_given(&mut self)
         ensures { self.new ≡ self.old }
     {

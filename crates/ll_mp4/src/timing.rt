@@ -1,4 +1,4 @@
-//! What a fragment tells of time (section 8.8.4).
+//! Reads the times of a fragment (section 8.8.4): those of its movie's governing track, or the first decode time of any track.
 ghost use Rattle.std.specs.Prelude.{◌≡◌, ◌/◌, ◌^◌, None};
 ghost use Rattle.ll_mp4.specs.Boxes.{contents_in};
 ghost use Rattle.ll_mp4.specs.Moments.{moment_of};
@@ -7,7 +7,7 @@ ghost use Rattle.ll_mp4.specs.Timings as spec;
 ghost use Rattle.ll_mp4.specs.declared.kind.Kind.TheVariants.{Traf};
 
 use crate::boxes::{at_most_one, next_of, only};
-use crate::fault::Fault;
+use crate::fault::StreamFault;
 use crate::flags as flag;
 use crate::kind::Kind;
 use crate::movie::Movie;
@@ -15,41 +15,41 @@ use crate::numbers::{has, large_number_at, number_at};
 use crate::runs::{defaults_of, read_runs};
 use crate::track::Track;
 
-/// What a fragment tells of the time of its movie's governing track.
+/// The times of a fragment of its movie's governing track.
 #[derive(Clone, Copy, Debug, PartialEq, Eq)]
 pub struct Timing {
-    /// The tick at which its samples are first decoded (section 8.8.12).
+    /// The decode time of its first sample, in ticks (section 8.8.12).
     pub time: Option<u64>,
-    /// How many ticks its samples last; 2^64 - 1 where that is not less.
+    /// The duration of its samples, in ticks, at most 2^64 - 1.
     pub ticks: u64,
-    /// Whether its first sample is a sync sample; where it has no samples, whether one would be by the defaults.
+    /// Whether its first sample is a sync sample; if it has no samples, whether one would be by the defaults.
     pub sync: bool,
 }
 
 /// A decode time (section 8.8.12).
 #[derive(Clone, Copy, Debug, PartialEq, Eq)]
 pub struct Moment {
-    /// The tick.
+    /// The time, in ticks.
     pub time: u64,
-    /// How many ticks a second has.
+    /// The number of ticks in a second.
     pub scale: u32,
 }
 
-/// Reads the timing of the fragment in `unit`; none, where it has no fragment, or none of the governing track.
-pub fn read_timing(movie: &Movie, unit: &[u8]) -> Result<Option<Timing>, Fault>
+/// Reads the timing of the fragment in `unit`. Returns `None` if there is no fragment, or none of the governing track.
+pub fn read_timing(movie: &Movie, unit: &[u8]) -> Result<Option<Timing>, StreamFault>
     ensures { result ≡ spec.timing_of movie.now unit.now }
 {
     let Some(moof) = at_most_one(Kind::Moof, unit)? else {
         return Ok(None);
     };
     if next_of(Kind::Traf, moof)?.is_none() {
-        return Err(Fault::Missing(Kind::Traf));
+        return Err(StreamFault::Missing(Kind::Traf));
     }
     read_trafs(movie, moof)
 }
 
 /// Reads the timing of all tracks' fragments in `moof`.
-fn read_trafs(movie: &Movie, moof: &[u8]) -> Result<Option<Timing>, Fault>
+fn read_trafs(movie: &Movie, moof: &[u8]) -> Result<Option<Timing>, StreamFault>
     ensures { result ≡ spec.and_trafs movie.now None (contents_in Traf moof.now) }
 {
     let mut timing = None;
@@ -61,8 +61,12 @@ fn read_trafs(movie: &Movie, moof: &[u8]) -> Result<Option<Timing>, Fault>
     Ok(timing)
 }
 
-/// Returns the timing after one more track's fragment, where `before` came before it.
-fn and_traf(movie: &Movie, before: Option<Timing>, traf: &[u8]) -> Result<Option<Timing>, Fault>
+/// Returns the timing after the track's fragment `traf`; `before` is the timing of those before it.
+fn and_traf(
+    movie: &Movie,
+    before: Option<Timing>,
+    traf: &[u8],
+) -> Result<Option<Timing>, StreamFault>
     ensures { result ≡ spec.and_traf movie.now before traf.now }
 {
     let tfhd = only(Kind::Tfhd, traf)?;
@@ -73,28 +77,28 @@ fn and_traf(movie: &Movie, before: Option<Timing>, traf: &[u8]) -> Result<Option
     }
     match movie.scale_of(id) {
         Some(_) => Ok(before),
-        None => Err(Fault::OtherTrack),
+        None => Err(StreamFault::OtherTrack),
     }
 }
 
-/// Reads the timing of the governing track's fragment, where `before` came before it.
+/// Reads the timing of the governing track's fragment. Fails with `Several(Traf)` if there was one before it.
 fn and_governing(
     track: &Track,
     before: Option<Timing>,
     tfhd: &[u8],
     traf: &[u8],
-) -> Result<Option<Timing>, Fault>
+) -> Result<Option<Timing>, StreamFault>
     ensures { result ≡ spec.and_governing track.now before tfhd.now traf.now }
 {
     if before.is_some() {
-        return Err(Fault::Several(Kind::Traf));
+        return Err(StreamFault::Several(Kind::Traf));
     }
     let timing = timing_in(track, tfhd, traf)?;
     Ok(Some(timing))
 }
 
 /// Reads the timing of a track's fragment with the header `tfhd`.
-fn timing_in(track: &Track, tfhd: &[u8], traf: &[u8]) -> Result<Timing, Fault>
+fn timing_in(track: &Track, tfhd: &[u8], traf: &[u8]) -> Result<Timing, StreamFault>
     ensures { result ≡ spec.timing_in track.now tfhd.now traf.now }
 {
     let time = read_time(traf)?;
@@ -108,7 +112,7 @@ fn timing_in(track: &Track, tfhd: &[u8], traf: &[u8]) -> Result<Timing, Fault>
 }
 
 /// Reads the decode time of a track's fragment (section 8.8.12).
-fn read_time(traf: &[u8]) -> Result<Option<u64>, Fault>
+fn read_time(traf: &[u8]) -> Result<Option<u64>, StreamFault>
     ensures { result ≡ spec.time_of traf.now }
 {
     let Some(tfdt) = at_most_one(Kind::Tfdt, traf)? else {
@@ -119,19 +123,19 @@ fn read_time(traf: &[u8]) -> Result<Option<u64>, Fault>
     Ok(Some(time))
 }
 
-/// Reads the time of a box of this version: it has 32 bits in version 0 and 64 bits in version 1.
-fn time_by(version: u32, tfdt: &[u8]) -> Result<u64, Fault>
+/// Reads the decode time of a box of this version: 32 bits in version 0, 64 bits in version 1, `BadBox` in any other.
+fn time_by(version: u32, tfdt: &[u8]) -> Result<u64, StreamFault>
     ensures { result ≡ spec.time_by version tfdt.now }
 {
     match version {
         0 => Ok(number_at(4, tfdt)? as u64),
         1 => large_number_at(4, tfdt),
-        _ => Err(Fault::BadBox),
+        _ => Err(StreamFault::BadBox),
     }
 }
 
-/// Reads the first decode time that the fragment in `unit` tells, of whatever track of the movie; none, where it has no fragment or this tells none.
-/// What is wrong with a track's fragment is passed over.
+/// Reads the first decode time of any of the movie's tracks in the fragment of `unit`. Returns `None` if it has no fragment or no such time. Ignores
+/// the faults of a track's fragment.
 pub(crate) fn read_moment(movie: &Movie, unit: &[u8]) -> Option<Moment>
     ensures { result ≡ moment_of movie.now unit.now }
 {
@@ -155,8 +159,8 @@ fn first_moment(movie: &Movie, moof: &[u8]) -> Option<Moment>
     None
 }
 
-/// Reads the decode time of a track's fragment, where its track is one of the movie's and it has one.
-fn moment_in(movie: &Movie, traf: &[u8]) -> Result<Option<Moment>, Fault>
+/// Reads the decode time of a track's fragment, if it has one and its track is one of the movie's.
+fn moment_in(movie: &Movie, traf: &[u8]) -> Result<Option<Moment>, StreamFault>
     ensures { result ≡ moments.moment_in movie.now traf.now }
 {
     let tfhd = only(Kind::Tfhd, traf)?;

@@ -1,9 +1,11 @@
-/// The ticks of a movie's track.
+//! The tracks of a movie.
+
+/// The time scale of a movie's track.
 #[derive(Clone, Copy, Debug, PartialEq, Eq)]
 pub struct TimeScale {
     /// The track's ID (section 8.3.2).
     pub id: u32,
-    /// How many ticks a second has (section 8.4.2); never 0.
+    /// The number of ticks in a second (section 8.4.2), never 0.
     pub scale: u32,
 }
 
@@ -20,10 +22,10 @@ pub(crate) struct Listed {
 pub struct Track {
     /// Its ID (section 8.3.2).
     pub id: u32,
-    /// How many ticks a second has (section 8.4.2); never 0.
+    /// The number of ticks in a second (section 8.4.2), never 0.
     pub scale: u32,
-    /// The duration in ticks of a sample that tells none (section 8.8.3).
+    /// The duration, in ticks, of a sample without its own (section 8.8.3).
     pub duration: u32,
-    /// The flags of a sample that tells none (section 8.8.3).
+    /// The flags of a sample without its own (section 8.8.3).
     pub flags: u32,
 }

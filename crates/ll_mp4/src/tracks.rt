@@ -1,4 +1,4 @@
-//! The tracks of a movie (section 8.3.1).
+//! Reads the tracks of a movie, and which of them governs (section 8.3.1).
 ghost use Rattle.std.specs.Prelude.{◌≡◌, ◌⊎◌, ◌/◌, ◌^◌, [], None, MatchResult, Ok, Err};
 ghost use Rattle.ll_mp4.specs.Boxes.{contents_in};
 ghost use Rattle.ll_mp4.specs.Movies as spec;
@@ -7,7 +7,7 @@ ghost use Rattle.ll_mp4.specs.Tracks.{better, chosen_after, governing_in, scales
 ghost use Rattle.ll_mp4.specs.declared.kind.Kind.TheVariants.{Hdlr, Trak, Trex};
 
 use crate::boxes::{next_of, only};
-use crate::fault::Fault;
+use crate::fault::StreamFault;
 use crate::kind::Kind;
 use crate::numbers::number_at;
 use crate::track::{Listed, TimeScale, Track};
@@ -16,16 +16,16 @@ use std::alloc::Global;
 /// `vide`, the handler type of pictures (section 8.4.3).
 const VIDEO: u32 = 0x7669_6465;
 
-/// Reads the track that governs a movie, with its defaults.
-pub(crate) fn read_governing(moov: &[u8]) -> Result<Track, Fault>
+/// Reads the governing track of a movie, with its defaults.
+pub(crate) fn read_governing(moov: &[u8]) -> Result<Track, StreamFault>
     ensures { result ≡ governing_in moov.now }
 {
     let chosen = choose(moov)?;
     read_defaults(moov, chosen.scale)
 }
 
-/// Chooses the track that governs a movie.
-fn choose(moov: &[u8]) -> Result<Listed, Fault>
+/// Returns the governing track of a movie: the first with pictures, or else the first.
+fn choose(moov: &[u8]) -> Result<Listed, StreamFault>
     ensures { result ≡ chosen_after None (listed_in (contents_in Trak moov.now)) }
 {
     let mut chosen = None;
@@ -35,10 +35,10 @@ fn choose(moov: &[u8]) -> Result<Listed, Fault>
         chosen = Some(better(chosen, track));
         rest = after;
     }
-    chosen.ok_or(Fault::Missing(Kind::Trak))
+    chosen.ok_or(StreamFault::Missing(Kind::Trak))
 }
 
-/// Returns which governs of `track` and the one that was chosen of those before it.
+/// Returns which of `track` and `chosen`, the choice among the tracks before it, governs.
 fn better(chosen: Option<Listed>, track: Listed) -> Listed
     ensures { result ≡ better chosen track }
 {
@@ -50,9 +50,9 @@ fn better(chosen: Option<Listed>, track: Listed) -> Listed
 
 /// Reads the time scales of a movie's tracks.
 #[tactic(auto, using(crate::proofs::TrackLemmas::scales_more, crate::proofs::TrackLemmas::scales_done))]
-pub(crate) fn read_scales(alloc: Global, moov: &[u8]) -> Result<Vec<TimeScale>, Fault>
+pub(crate) fn read_scales(alloc: Global, moov: &[u8]) -> Result<Vec<TimeScale>, StreamFault>
     ensures { MatchResult result (λ scales. scales_after [] (listed_in (contents_in Trak moov.now)) ≡ Ok scales.items)
-        (λ fault. (scales_after [] (listed_in (contents_in Trak moov.now)) ≡ Err fault) ⊎ (fault ≡ Fault.Memory)) }
+        (λ fault. (scales_after [] (listed_in (contents_in Trak moov.now)) ≡ Err fault) ⊎ (fault ≡ StreamFault.Memory)) }
 {
     let mut scales = Vec::new(alloc);
     let mut rest = moov;
@@ -60,14 +60,14 @@ pub(crate) fn read_scales(alloc: Global, moov: &[u8]) -> Result<Vec<TimeScale>, 
         let track = read_listed(trak)?;
         match scales.push(track.scale) {
             Ok(()) => rest = after,
-            Err(_) => return Err(Fault::Memory),
+            Err(_) => return Err(StreamFault::Memory),
         }
     }
     Ok(scales)
 }
 
 /// Reads a track.
-fn read_listed(trak: &[u8]) -> Result<Listed, Fault>
+fn read_listed(trak: &[u8]) -> Result<Listed, StreamFault>
     ensures { result ≡ spec.listed_of trak.now }
 {
     let id = read_id(trak)?;
@@ -81,26 +81,26 @@ fn read_listed(trak: &[u8]) -> Result<Listed, Fault>
 }
 
 /// Reads the ID of a track (section 8.3.2).
-fn read_id(trak: &[u8]) -> Result<u32, Fault>
+fn read_id(trak: &[u8]) -> Result<u32, StreamFault>
     ensures { result ≡ spec.id_of trak.now }
 {
     let tkhd = only(Kind::Tkhd, trak)?;
     timed_field(tkhd)
 }
 
-/// Reads how many ticks a second has (section 8.4.2).
-fn read_ticks(mdia: &[u8]) -> Result<u32, Fault>
+/// Reads the number of ticks in a second (section 8.4.2). Fails with `NoTimeScale` if it is 0.
+fn read_ticks(mdia: &[u8]) -> Result<u32, StreamFault>
     ensures { result ≡ spec.ticks_of mdia.now }
 {
     let mdhd = only(Kind::Mdhd, mdia)?;
     match timed_field(mdhd)? {
-        0 => Err(Fault::NoTimeScale),
+        0 => Err(StreamFault::NoTimeScale),
         scale => Ok(scale),
     }
 }
 
-/// Reads whether a track's media are pictures, by the first handler (section 8.4.3).
-fn has_pictures(mdia: &[u8]) -> Result<bool, Fault>
+/// Returns whether a track has pictures, by its first handler (section 8.4.3).
+fn has_pictures(mdia: &[u8]) -> Result<bool, StreamFault>
     ensures { result ≡ spec.has_pictures (contents_in Hdlr mdia.now) }
 {
     let Some((hdlr, _)) = next_of(Kind::Hdlr, mdia)? else {
@@ -110,8 +110,8 @@ fn has_pictures(mdia: &[u8]) -> Result<bool, Fault>
     Ok(handler == VIDEO)
 }
 
-/// Reads the defaults that a movie has for the track with the time scale `scale` (section 8.8.1).
-fn read_defaults(moov: &[u8], scale: TimeScale) -> Result<Track, Fault>
+/// Reads the track with the time scale `scale` and the defaults that a movie has for it (section 8.8.1).
+fn read_defaults(moov: &[u8], scale: TimeScale) -> Result<Track, StreamFault>
     ensures { result ≡ spec.defaults_in moov.now scale }
 {
     let mvex = only(Kind::Mvex, moov)?;
@@ -120,7 +120,7 @@ fn read_defaults(moov: &[u8], scale: TimeScale) -> Result<Track, Fault>
 }
 
 /// Finds the first defaults for the track with the ID `id` (section 8.8.3).
-fn find_trex(id: u32, mvex: &[u8]) -> Result<&[u8], Fault>
+fn find_trex(id: u32, mvex: &[u8]) -> Result<&[u8], StreamFault>
     ensures { MatchResult result (λ trex. spec.trex_for id (contents_in Trex mvex.now) ≡ Ok trex.now)
         (λ fault. spec.trex_for id (contents_in Trex mvex.now) ≡ Err fault) }
 {
@@ -131,11 +131,11 @@ fn find_trex(id: u32, mvex: &[u8]) -> Result<&[u8], Fault>
         }
         rest = after;
     }
-    Err(Fault::Missing(Kind::Trex))
+    Err(StreamFault::Missing(Kind::Trex))
 }
 
-/// Reads the track with the time scale `scale` and these defaults.
-fn with_defaults(scale: TimeScale, trex: &[u8]) -> Result<Track, Fault>
+/// Reads the track with the time scale `scale` and the defaults of `trex`.
+fn with_defaults(scale: TimeScale, trex: &[u8]) -> Result<Track, StreamFault>
     ensures { result ≡ spec.with_defaults scale trex.now }
 {
     let duration = number_at(12, trex)?;
@@ -148,8 +148,8 @@ fn with_defaults(scale: TimeScale, trex: &[u8]) -> Result<Track, Fault>
     })
 }
 
-/// Reads the field of 32 bits that stands after two times, of a header that begins with a version.
-fn timed_field(content: &[u8]) -> Result<u32, Fault>
+/// Reads the 32-bit field after the two times of a header that begins with a version.
+fn timed_field(content: &[u8]) -> Result<u32, StreamFault>
     ensures { result ≡ spec.timed_field content.now }
 {
     let word = number_at(0, content)?;
@@ -157,13 +157,14 @@ fn timed_field(content: &[u8]) -> Result<u32, Fault>
     number_at(place, content)
 }
 
-/// Returns where it stands: the times have 32 bits in version 0 and 64 bits in version 1.
-fn after_times(version: u32) -> Result<u32, Fault>
+/// Returns the place of that field after times of 32 bits in version 0 and 64 bits in version 1; any other
+/// version is `BadBox`.
+fn after_times(version: u32) -> Result<u32, StreamFault>
     ensures { result ≡ spec.after_times version }
 {
     match version {
         0 => Ok(12),
         1 => Ok(20),
-        _ => Err(Fault::BadBox),
+        _ => Err(StreamFault::BadBox),
     }
 }

@@ -1,4 +1,4 @@
-//! Where a unit begins and ends.
+//! Finds where a unit ends, and the `mfra` boxes before it.
 ghost use Rattle.std.specs.Prelude.{◌≡◌, ◌≤◌, ◌==◌, IfOk, IfSome, length};
 ghost use Rattle.ll_mp4.specs.Boxes.{boxes};
 ghost use Rattle.ll_mp4.specs.Lefts.{dropped, index_size};
@@ -6,15 +6,15 @@ ghost use Rattle.ll_mp4.specs.Units as spec;
 ghost use Rattle.ll_mp4.specs.Units.{unit_found, unit_of};
 
 use crate::boxes::read_head;
-use crate::fault::Fault;
+use crate::fault::StreamFault;
 use crate::kind::Kind;
 
 /// The most bytes of a unit.
 pub const SIZE_LIMIT: usize = 1_048_576;
 
-/// Returns how many bytes the unit at the front has: the boxes up to the end of the first that is a `moov` or an `mdat`; none, where not all of it
-/// has come.
-pub fn read_unit(bytes: &[u8]) -> Result<Option<usize>, Fault>
+/// Returns the length in bytes of the unit at the front: the boxes up to the end of the first `moov` or `mdat` box. Returns `None` if not all of
+/// it has come. Fails with `BadBox` or `TooLarge`.
+pub fn read_unit(bytes: &[u8]) -> Result<Option<usize>, StreamFault>
     ensures told { unit_of bytes.now ≡ unit_found result }
     ensures within { IfOk result (λ unit. IfSome unit (λ size. size ≤ length bytes.now)) }
 {
@@ -22,7 +22,7 @@ pub fn read_unit(bytes: &[u8]) -> Result<Option<usize>, Fault>
     let mut rest = bytes;
     'boxes: while let Some(head) = read_head(rest)? {
         if head.size > (SIZE_LIMIT - end) as u64 {
-            return Err(Fault::TooLarge);
+            return Err(StreamFault::TooLarge);
         }
         if head.size > rest.len() as u64 {
             return Ok(None);
@@ -37,7 +37,7 @@ pub fn read_unit(bytes: &[u8]) -> Result<Option<usize>, Fault>
     Ok(None)
 }
 
-/// Returns what stands after the `mfra` boxes at the front (section 8.8.9), and how many bytes of the last of these haven't come.
+/// Returns what follows the `mfra` boxes at the front (section 8.8.9), and the number of bytes of the last of them that haven't come.
 pub(crate) fn after_index(bytes: &[u8]) -> (&[u8], u64)
     ensures { record { skip = result.1; unread = result.0.now } ≡ dropped (index_size (boxes bytes.now)) bytes.now }
 {
@@ -55,7 +55,7 @@ pub(crate) fn after_index(bytes: &[u8]) -> (&[u8], u64)
     (rest, 0)
 }
 
-/// Returns whether a box of this type ends a unit.
+/// Returns whether a box of type `kind` ends a unit.
 fn is_last(kind: u32) -> bool
     ensures { result ≡ spec.is_last kind }
 {

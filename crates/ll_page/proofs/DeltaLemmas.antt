@@ -1,4 +1,4 @@
--- The text of a playlist that skips so many segments, in its order, by the pieces of its view.
+-- The text of a playlist that skips a number of segments, in its order, by the pieces of its view.
 use Rattle.std.proofs.Common.{◌≡◌, ℕ, zero, suc, ◌==◌, List, [], ◌++◌, Bool, false, length, map, drop, refl, ap, sym, ◌∙◌, arith, append_assoc, append-nil}
 use Rattle.std.proofs.lemmas.Bool.Decides.{nat_tests}
 use Rattle.std.specs.Prelude.{flat_map}
@@ -15,13 +15,13 @@ use Rattle.ll_line.proofs.Texts.{spelling_texts}
 after : (n : ℕ) → (suc n == 0) ≡ false
 after n = grind (arith, nat_tests)
 
--- what stands for date ranges and for what is skipped
+-- the lines of the date ranges and of what is skipped
 abbrev pub skips_by : SkipKind → Seen → ℕ → List ℕ
 skips_by kind v zero = text_of (map DateRange (full_playlist v).ranges)
 skips_by kind v (suc n) =
     text_of (map DateRange (map range_line (ranges_left kind (asked v)))) ++ line_text (Skipped (record { count = suc n; removed = ids_removed kind (asked v) }))
 
--- where no segment is skipped, and where some are
+-- if no segment is skipped, and if some are
 
 pub skips-none : (kind : SkipKind) (v : Seen) (n : ℕ) → n ≡ 0 → text_of (map DateRange (map range_line (asked v).ranges.listed)) ≡ skips_by kind v n
 skips-none kind v n e = ap (skips_by kind v) (sym e)

@@ -55,7 +55,7 @@ pub still-finished : {A : Type 0} (of : A → PieceOf) (n : ℕ) (xs ys : List A
     → (rows_in (map of ys) ≡ drop n (rows_in (map of xs))) × AreFinished (map of ys)
 still-finished of n xs ys e f = all-finished (map of ys) (drop n (rows_in (map of xs))) (ap (map of) e ∙ dropped of n xs f)
 
--- the last ones, of which at most so many are left
+-- the last ones, of which at most that many are left
 pub last-pieces : {A : Type 0} (of : A → PieceOf) (n count : ℕ) (xs ys : List A) (open_one : Option Row) (p : PiecesOf) → rendered (rows_in (map of xs)) open_one ≡ p
     → AreFinished (map of xs) → ys ≡ drop n xs → n ≡ length xs - count
     → rendered (rows_in (map of ys)) open_one ≡ record p { finished = drop (length p.finished - count) p.finished }
@@ -97,7 +97,7 @@ joined_rows : (leads : Bool) (rows : List Row) → joined_lines leads (map finis
 joined_rows leads [] = refl
 joined_rows leads (row ∷ rows) = ap (λ more. segment_lines (finished_of leads row) ++ more) (joined_rows false rows)
 
--- the lines of all finished pieces but so many
+-- the lines of all finished pieces but the skipped ones
 pub joined-finished : {A : Type 0} (of : A → PieceOf) (leads : Bool) (n : ℕ) (xs : List A) → AreFinished (map of xs)
     → joined_lines leads (map of (drop n xs)) ≡ flat_map segment_lines (printed leads (drop n (rows_in (map of xs))))
 joined-finished of leads n xs e = ap (joined_lines leads) (dropped of n xs e) ∙ joined_rows leads (drop n (rows_in (map of xs)))

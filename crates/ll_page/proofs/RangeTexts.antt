@@ -1,4 +1,4 @@
--- The text of a date range is read as an attribute list: its ID stands first, and no other attribute has that name.
+-- The text of a date range is parsed as an attribute list: its ID is first, and no other attribute has that name.
 use Rattle.std.proofs.Common.{◌≡◌, ℕ, ◌==◌, ◌||◌, Bool, true, false, List, [], ◌∷◌, ◌++◌, refl, ap, sym, ◌∙◌, arith, bytes_eq, codes, Option, Some, None, Ok, if◌then◌else◌}
 use Rattle.std.proofs.lemmas.Bool.{and_parts, and_from, or_parts, or_from}
 use Rattle.std.proofs.lemmas.Bool.Decides.{nat_tests}
@@ -23,7 +23,7 @@ all-so p q f [] h = refl
 all-so p q f (b ∷ bs) h =
     let both = and_parts (p b) (list_all p bs) h in and_from (q b) (list_all q bs) (f b both.0) (all-so p q f bs both.1)
 
--- bytes of an ID may stand in quotes
+-- bytes of an ID are allowed in quotes
 
 id_byte : (b : ℕ) → is_id_byte b ≡ true → is_quoted_byte b ≡ true
 id_byte b h = grind (arith, nat_tests)
@@ -51,7 +51,7 @@ id_part : (id rest : List ℕ) (more : List (List ℕ)) → list_all is_quoted_b
     → parts_outside false (codes "ID=\"" ++ (id ++ (34 ∷ rest))) ≡ id_text id ∷ more
 id_part id rest more h e = ap (λ ps. put_front 73 (put_front 68 (put_front 61 (put_front 34 ps)))) (quoted_part id rest more h e)
 
--- and it is read as the ID
+-- and it is parsed as the ID
 
 between_marks : (id : List ℕ) → list_all is_quoted_byte id ≡ true → pieces_at 34 (34 ∷ (id ++ 34 ∷ [])) ≡ [] ∷ id ∷ [] ∷ []
 between_marks id h = ap (λ ps. [] ∷ ps) (slice_split_at (λ b. b == 34) id 34 [] (All-from_recursion (λ b. (b == 34) ≡ false) id (no_marks id h)) refl)
@@ -66,7 +66,7 @@ id_of id = record { name = codes "ID"; value = Quoted id }
 id_read : (id : List ℕ) → list_all is_quoted_byte id ≡ true → attribute_in [] (id_text id) ≡ Ok (id_of id)
 id_read id h = ap (λ v. read_by true false (codes "ID") v) (quoted_value id h)
 
--- a name that no attribute has may stand before
+-- a name that no attribute has is allowed before
 
 one_more : (x few many : Bool) (name : List ℕ) (v : Option AttrValue) (a : Attribute) → (few ≡ false → many ≡ false)
     → read_by x few name v ≡ Ok a → read_by x many name v ≡ Ok a
@@ -97,7 +97,7 @@ read_after names (part ∷ parts) name found h none =
     ∙ ap (in_front p.0) (read_after (p.0.name ∷ names) parts name p.1 p.3 others.1)
     ∙ ap Ok (sym p.4)
 
--- none of the attributes that a date range may have besides is called ID
+-- none of the other attributes of a date range is called ID
 
 allowed_by : (name : List ℕ) (value : AttrValue) → name ≡ codes "ID" → is_allowed (record { name = name; value = value }) ≡ false
 allowed_by name value e = ap (λ n. is_allowed (record { name = n; value = value })) e
@@ -112,7 +112,7 @@ none_called (a ∷ more) h =
     let p = and_parts (is_allowed a) (list_all is_allowed more) h in
     or_from (is_called (codes "ID") a) (list_any (is_called (codes "ID")) more) (no_id a (bytes_eq a.name (codes "ID")) refl p.0) (none_called more p.1)
 
--- the text of an ID and of an attribute list after it is read as both
+-- the text of an ID and of an attribute list after it is parsed as both
 read_by_text : (id text : List ℕ) (list : List Attribute) → list_all is_quoted_byte id ≡ true → attributes_in text ≡ Ok list
     → list_any (is_called (codes "ID")) list ≡ false → attributes_in (codes "ID=\"" ++ (id ++ (codes "\"" ++ attributes_text text))) ≡ Ok (id_of id ∷ list)
 read_by_text id [] list h read none = cc

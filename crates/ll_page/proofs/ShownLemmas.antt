@@ -1,4 +1,4 @@
--- What one more item makes of what is kept of the renditions.
+-- What is kept of the renditions after one more item.
 use Rattle.std.proofs.Common.{◌≡◌, ℕ, zero, suc, ◌<◌, List, [], ◌∷◌, ◌++◌, true, false, Option, None, Some, is_none, refl, ap, ap₂, sym, ◌∙◌, true≢false, length, arith}
 use Rattle.std.specs.Prelude.{Result, Ok, Err, OnOk, slice_get, slice_set}
 use Rattle.std.proofs.lemmas.Bool.Decides.{nat_tests}

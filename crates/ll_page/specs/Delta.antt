@@ -12,23 +12,22 @@ use Rattle.ll_page.specs.View.{Seen, asked}
 use Rattle.ll_item.specs.declared.skip_kind.SkipKind.{SkipKind}
 use Rattle.ll_item.specs.declared.skip_kind.SkipKind.TheVariants.{Yes, V2}
 
--- the date ranges that a delta update lists: all of them, or those that it doesn't skip
+-- the date ranges that a delta update of this kind lists: all of them, or those that it doesn't skip
 abbrev pub ranges_left : SkipKind → Rendition → List Listed
 ranges_left Yes k = k.ranges.listed
 ranges_left V2 k = left_at k.window.end_time k.ranges
 
--- the ids of the recent removals, in order of removal, also where there is none; a delta update that skips no date ranges
--- doesn't tell them
+-- the ids of the recent removals, in order of removal, which an update of kind V2 lists, even if there are none (rule 18)
 abbrev pub ids_removed : SkipKind → Rendition → Option (List (List ℕ))
 ids_removed Yes k = None
 ids_removed V2 k = Some (map (λ (removal : Removal). removal.id) (recent_at k.window.end_time k.ranges))
 
--- what stands for so many segments, and for the date ranges that are skipped and removed, where there are segments
+-- the line that stands for the skipped segments and lists the removals, if segments are skipped
 abbrev pub skip_of : Option (List (List ℕ)) → ℕ → Option Skip
 skip_of removed zero = None
 skip_of removed (suc n) = Some (record { count = suc n; removed = removed })
 
--- the full playlist but for its date ranges and segments: the first ones are skipped, and none of the other segments leads
+-- the full playlist without the first `count` segments and the date ranges that are skipped; no segment has a MAP line for being the first
 abbrev pub update_of : SkipKind → Seen → ℕ → Playlist
 update_of kind v count = record (full_playlist v) {
   ranges = map range_line (ranges_left kind (asked v));
@@ -40,11 +39,11 @@ abbrev pub delta_by : SkipKind → ℕ → Seen → Playlist
 delta_by kind zero v = full_playlist v
 delta_by kind (suc n) v = update_of kind v (suc n)
 
--- The delta update of the rendition that is asked for. Where no segment is skipped, it is the full playlist, with all its date
--- ranges.
+-- The delta update of the rendition that is asked for. If no segment is skipped, it is the full playlist, with all its date
+-- ranges (rule 21).
 abbrev pub delta_playlist : SkipKind → Seen → Playlist
 delta_playlist kind v = delta_by kind (skip_count (asked v).window) v
 
--- its text
+-- the text of the delta update
 abbrev pub delta_text : SkipKind → Seen → List ℕ
 delta_text kind v = spelling (delta_playlist kind v)

@@ -16,6 +16,7 @@ use Rattle.ll_line.specs.Spelling.{spelling}
 use Rattle.ll_line.specs.Uris.{segment_uri, part_uri, map_uri, report_uri}
 use Rattle.ll_page.specs.View.{Seen, seen, asked}
 
+-- the lines that depend on the settings alone (rule 20)
 abbrev pub header_of : Configuration → Header
 header_of c = record {
   version = 10;
@@ -26,7 +27,7 @@ header_of c = record {
   part_target = c.part_target;
 }
 
--- the parts of a segment, the first of them with this index
+-- the lines of parts of the segment with this Media Sequence Number, the first of which has this index (rules 7 and 19)
 abbrev pub part_lines : ℕ → ℕ → List Part → List PartLine
 part_lines number index [] = []
 part_lines number index (p ∷ ps) =
@@ -36,8 +37,8 @@ abbrev pub map_of : Bool → ℕ → Option (List ℕ)
 map_of true number = Some (map_uri number)
 map_of false number = None
 
--- A MAP line stands at the first segment of a playlist, which leads, and at each broken one (section 4.4.4.5).
--- The time is cut to milliseconds.
+-- The lines of a segment before its EXTINF line. A MAP line is at a segment that `leads`, the first of a full playlist, and at each broken one
+-- (section 4.4.4.5). The time is cut to milliseconds (rules 12 and 13).
 abbrev pub block_of : Bool → Row → Block
 block_of leads row = record {
   broken = row.segment.broken;
@@ -49,29 +50,29 @@ block_of leads row = record {
 abbrev pub finished_of : Bool → Row → Finished
 finished_of leads row = record { block = block_of leads row; duration = row.segment.duration; uri = segment_uri row.segment.number }
 
--- finished segments, of which the first leads the playlist or doesn't
+-- finished segments, of which the first leads or doesn't
 abbrev pub printed : Bool → List Row → List Finished
 printed leads [] = []
 printed leads (row ∷ more) = finished_of leads row ∷ printed false more
 
--- the open segment's block, where it has a part
+-- the lines of the open segment, if there is one
 abbrev pub open_of : Bool → Option Row → Option Block
 open_of leads None = None
 open_of leads (Some row) = Some (block_of leads row)
 
--- the number of the first segment; without one, of the open segment or else the next
+-- the Media Sequence Number of the first finished segment; without one, of the open segment or else the next (rule 6)
 abbrev pub sequence_of : Compact → List Row → ℕ
 sequence_of k [] = k.next_number
 sequence_of k (row ∷ more) = row.segment.number
 
--- the report of a rendition, where it has a part and the playlist is not its own
+-- the report of a rendition, if it has a part and the playlist is not its own (rule 15)
 abbrev pub report_by : Bool → List ℕ → Option PartPosition → List Report
 report_by true name last = []
 report_by false name None = []
 report_by false name (Some place) = (record { uri = report_uri name; number = place.number; index = place.index }) ∷ []
 
--- the reports of the renditions of these names, in the settings' order, where the first of them has this index, in the
--- playlist of the one that is asked for
+-- the reports of renditions with these names, the first of which has the index `rendition`, in the playlist of the one with the index `asked`,
+-- in the settings' order (rule 15)
 abbrev pub reports_from : ℕ → ℕ → List (List ℕ) → List Rendition → List Report
 reports_from asked rendition names [] = []
 reports_from asked rendition [] (k ∷ ks) = []
@@ -85,17 +86,18 @@ abbrev pub hint_by : Bool → List ℕ → Option (List ℕ)
 hint_by true uri = None
 hint_by false uri = Some uri
 
--- the part after the last of the open segment, or the first of the next
+-- the part after the last of the open segment, or the first of the next; none after the end (rule 16)
 abbrev pub hint_of : Compact → Option (List ℕ)
 hint_of k = hint_by k.ended (part_uri k.next_number (length k.open_parts))
 
 abbrev pub range_line : Listed → DateRangeLine
 range_line range = record { id = range.id; attributes = range.attributes }
 
--- the date ranges that are listed, in order of adding
+-- the date ranges that are listed, in order of adding (rule 17)
 abbrev pub range_lines : Announced → List DateRangeLine
 range_lines a = map range_line a.listed
 
+-- the full playlist of a rendition, with the segments of its window (rule 9)
 abbrev pub playlist_of : Configuration → List Report → Rendition → Playlist
 playlist_of c reports k = record {
   header = header_of c;
@@ -113,10 +115,10 @@ playlist_of c reports k = record {
 abbrev pub full_playlist : Seen → Playlist
 full_playlist v = playlist_of v.settings (reports_of v) (asked v)
 
--- its text
+-- the text of the full playlist
 abbrev pub full_text : Seen → List ℕ
 full_text v = spelling (full_playlist v)
 
--- the text of a rendition's playlist after these items of its channel
+-- the text of a rendition's full playlist after these items of its channel
 abbrev pub text_after : Configuration → List Item → ℕ → List ℕ
 text_after c items rendition = full_text (seen c items rendition)

@@ -1,4 +1,4 @@
--- What a page tells: the text of one playlist, and what it is made of.
+-- The text of a page: a full playlist or a delta update at one moment of a channel.
 use Rattle.std.specs.Prelude.{ℕ, zero, suc, List, Option, Some, None}
 use Rattle.ll_item.specs.Settings.{Configuration}
 use Rattle.ll_item.specs.declared.skip_kind.SkipKind.{SkipKind}
@@ -8,23 +8,23 @@ use Rattle.ll_page.specs.View.{Seen, asked}
 use Rattle.ll_rendition.specs.declared.rendition.Rendition.{Rendition}
 use Rattle.ll_window.specs.Compact.{skip_count}
 
--- what is kept of all renditions of a channel at one moment
+-- a channel at one moment: its settings and what is kept of its renditions
 pub record Moment : Type 0 where
   pub settings : Configuration
   pub renditions : List Rendition
   -- how many items the channel has accepted
   pub count : ℕ
 
--- what is seen of a rendition at this moment
+-- the view of a rendition at this moment
 abbrev pub seen_of : Moment → ℕ → Seen
 seen_of m rendition = record { settings = m.settings; renditions = m.renditions; rendition = rendition; count = m.count }
 
--- what is seen, and which delta update of it is asked for; none for the full playlist
+-- a view, and the kind of delta update that is asked for, none for the full playlist
 pub record Paged : Type 0 where
   pub seen : Seen
   pub form : Option SkipKind
 
--- the text of the delta update of this kind, or of the full playlist for none
+-- the text of the delta update of this kind, or for none of the full playlist
 abbrev pub text_in : Option SkipKind → Seen → List ℕ
 text_in None v = full_text v
 text_in (Some kind) v = delta_text kind v
@@ -36,6 +36,6 @@ abbrev pub unless_none : ℕ → Option SkipKind → Option SkipKind
 unless_none zero form = None
 unless_none (suc n) form = form
 
--- Which delta update the text is. None where it is a full playlist, also where an update was asked for and no segment is skipped.
+-- The kind of delta update that the text is, none if it is a full playlist, also because an update was asked for and no segment is skipped.
 abbrev pub update_in : Paged → Option SkipKind
 update_in p = unless_none (skip_count (asked p.seen).window) p.form

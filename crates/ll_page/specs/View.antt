@@ -1,4 +1,4 @@
--- What a playlist is made of.
+-- Views: what a playlist is written of.
 use Rattle.std.specs.Prelude.{◌≡◌, ℕ, ◌+◌, zero, suc, List, [], ◌∷◌, ◌++◌, length}
 use Rattle.ll_item.specs.Settings.{Configuration}
 use Rattle.ll_item.specs.declared.item.Item.{Item}
@@ -6,20 +6,20 @@ use Rattle.ll_window.specs.Segments.{own}
 use Rattle.ll_rendition.specs.Kept.{kept}
 use Rattle.ll_rendition.specs.declared.rendition.Rendition.{Rendition}
 
--- of all items of a channel, one for each of these renditions, the first of which has this index
+-- what is kept of all items of a channel for each of these renditions, the first of which has the index `rendition`
 abbrev pub renditions_from : Configuration → List Item → ℕ → List (List ℕ) → List Rendition
 renditions_from c items rendition [] = []
 renditions_from c items rendition (name ∷ more) = kept c (own rendition items) ∷ renditions_from c items (rendition + 1) more
 
--- of all items of a channel, one for each of its renditions
+-- what is kept of all items of a channel for each of its renditions
 abbrev pub renditions : Configuration → List Item → List Rendition
 renditions c items = renditions_from c items 0 c.renditions
 
--- what is kept goes on to what is kept of the items before it and of this item
+-- `new` is what is kept of some items and this one, if `old` is what is kept of the items before it
 abbrev pub GoOn : List Rendition → List Rendition → Item → Type 0
 GoOn old new i = (c : Configuration) (before : List Item) → old ≡ renditions c before → new ≡ renditions c (before ++ i ∷ [])
 
--- what is kept of all renditions of a channel, and which of them is asked for
+-- what is kept of all renditions of a channel, and the index of the one that is asked for
 pub record Seen : Type 0 where
   pub settings : Configuration
   pub renditions : List Rendition
@@ -27,11 +27,11 @@ pub record Seen : Type 0 where
   -- how many items the channel has accepted
   pub count : ℕ
 
--- what is seen of a rendition after these items of its channel
+-- the view of a rendition after these items of its channel (rule 22)
 abbrev pub seen : Configuration → List Item → ℕ → Seen
 seen c items rendition = record { settings = c; renditions = renditions c items; rendition = rendition; count = length items }
 
--- what is kept of the rendition at this place, where there is one
+-- what is kept of the rendition at this place, or `none` if there is none
 abbrev pub at_place : Rendition → List Rendition → ℕ → Rendition
 at_place none [] place = none
 at_place none (k ∷ ks) zero = k

@@ -1,4 +1,4 @@
-//! Media Playlists: what is kept of a channel's items, as the text that a player reads. Sections are those of
+//! Media Playlists and delta updates: their texts, written of what is kept of a channel's items. Sections are those of
 //! draft-pantos-hls-rfc8216bis-13.
 #![tactic(auto)]
 

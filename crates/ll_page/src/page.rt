@@ -1,3 +1,4 @@
+//! Pages: playlists that were written and are shared.
 ghost use Rattle.std.specs.Prelude.{◌≡◌, ◌<◌, ◌≤◌, IfOk, MatchOption, length};
 ghost use Rattle.std.specs.Arc.{arc_str_bytes};
 ghost use Rattle.ll_page.specs.Page.{page_text, seen_of, update_in};
@@ -12,7 +13,7 @@ use std::alloc::{AllocError, Global};
 use std::marker::Model;
 use std::sync::ArcStr;
 
-/// A playlist's text with the view whose text it is, both shared. However a page was come by, its text is right.
+/// The text of a playlist and the view that it was written of, both shared. By its invariant the text is always that of the view.
 #[derive(Drop)]
 pub struct Page {
     text: ArcStr,
@@ -35,9 +36,8 @@ impl Model for Page {
 }
 
 impl Page {
-    /// The page of the rendition with this index, where there is that rendition: its delta update of this kind, or its full playlist for
-    /// none. It shares what is shown and
-    /// copies nothing of it; it fails if no memory is found.
+    /// Returns the page of the rendition with the index `rendition`, or `None` if there is none: the delta update of kind `form`, or for `None` the full
+    /// playlist. The page shares `shown`.
     pub fn make(
         alloc: Global,
         shown: &Shown,
@@ -54,7 +54,7 @@ impl Page {
         Page::make_from(alloc, shown, rendition, &pieces, form)
     }
 
-    /// The page that `make` makes, joined from the pieces of its view, so that no line of a segment is written again.
+    /// Returns the same page as `make`. It is joined from the pieces of its view, so that no line of a segment is written again.
     pub fn make_from(
         alloc: Global,
         shown: &Shown,
@@ -78,56 +78,57 @@ impl Page {
         }))
     }
 
-    /// The text of the playlist, as `full` or `delta` writes it of the view.
+    /// Returns the text, as `full` or `delta` writes it of the view.
     pub fn text(&self) -> &str
         ensures { result.now ≡ page_text self.now }
     {
         &self.text
     }
 
-    /// Returns the text alone, shared: it is not copied, and keeps nothing else of the view.
+    /// Returns another handle of the text alone, which doesn't keep the view alive.
     pub fn shared_text(&self) -> Result<ArcStr, AllocError>
         ensures { IfOk result (λ t. arc_str_bytes t ≡ page_text self.now) }
     {
         self.text.clone()
     }
 
-    /// How many items the channel had accepted.
+    /// Returns how many items the channel had accepted at the moment of the page.
     pub fn number(&self) -> u64
         ensures { result ≡ self.now.seen.count }
     {
         self.view().count()
     }
 
-    /// The index of the rendition.
+    /// Returns the index of the rendition.
     pub fn rendition(&self) -> usize
         ensures { result ≡ self.now.seen.rendition }
     {
         self.rendition
     }
 
-    /// Which delta update of the rendition was asked for; none for the full playlist.
+    /// Returns the kind of delta update that was asked for, or `None` for the full playlist.
     pub fn form(&self) -> Option<SkipKind>
         ensures { result ≡ self.now.form }
     {
         self.form
     }
 
-    /// Which delta update its text is; none where it is a full playlist, also where an update was asked for and no segment is skipped.
+    /// Returns the kind of delta update that the text is, or `None` if it is a full playlist, also because an update was asked for and no segment
+    /// is skipped.
     pub fn update(&self) -> Option<SkipKind>
         ensures { result ≡ update_in self.now }
     {
         self.view().update(self.form)
     }
 
-    /// The view whose playlist it is.
+    /// Returns the view whose playlist the page is.
     pub fn view(&self) -> View<'_>
         ensures { result ≡ self.now.seen }
     {
         self.shown.view(self.rendition).unwrap()
     }
 
-    /// The same page, shared: neither its text nor its view is copied.
+    /// Returns another handle of the same page.
     pub fn again(&self) -> Result<Page, AllocError>
         ensures { IfOk result (λ p. p ≡ self.now) }
     {

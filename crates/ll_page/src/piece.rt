@@ -1,3 +1,4 @@
+//! Pieces: the lines of one segment, written once.
 ghost use Rattle.std.specs.Prelude.{◌≡◌, ◌≤◌, ◌++◌, IfOk, OnOk, string_bytes, true};
 ghost use Rattle.std.specs.Arc.{arc_value};
 ghost use Rattle.ll_attr.specs.YearEnd.{last_micro};
@@ -11,8 +12,8 @@ use std::alloc::{AllocError, Global};
 use std::marker::Model;
 use std::sync::Arc;
 
-/// The lines of a segment that doesn't lead its playlist, with what they were written of. However a piece was come by, its
-/// text is right.
+/// The lines of a segment that isn't the first of a full playlist, and what they were written of. By its invariant the text is always that of
+/// the segment and its parts.
 #[derive(Drop)]
 pub(crate) struct Piece {
     finished: bool,
@@ -34,8 +35,8 @@ impl Model for Piece {
 }
 
 impl Piece {
-    /// The piece of a segment, finished or open, which lists these parts: the one that is there, shared, where it's of just
-    /// these, or else a new one.
+    /// Returns the piece of `segment`, finished or open, with the parts `parts`: another handle of `there` if that is of exactly these, or else
+    /// a new one.
     pub(crate) fn of(
         alloc: Global,
         there: Option<&Arc<Piece>>,
@@ -52,7 +53,7 @@ impl Piece {
         }
     }
 
-    /// A new piece.
+    /// Writes a new piece.
     fn make(
         alloc: Global,
         finished: bool,
@@ -72,19 +73,19 @@ impl Piece {
         })
     }
 
-    /// Whether it is of this segment, and of these parts.
+    /// Returns whether the piece is of this segment and these parts.
     fn is(&self, finished: bool, segment: Segment, parts: &[Part]) -> bool
         ensures { result ≡ true → self.now ≡ record { row = record { segment = segment; parts = parts.now }; finished = finished } }
     {
         self.finished == finished && self.segment == segment && are_same(&self.parts, parts)
     }
 
-    /// The media sequence number of its segment.
+    /// Returns the Media Sequence Number of the segment.
     pub(crate) fn number(&self) -> u64 {
         self.segment.number
     }
 
-    /// Adds its lines to the text. Where its segment leads the playlist, the line of its map comes first; a broken one has that
+    /// Appends the lines. If the segment `leads`, as the first of a full playlist, its EXT-X-MAP line comes first; a broken segment has that
     /// line in any case, after its discontinuity.
     pub(crate) fn push(&self, text: &mut String, leads: bool) -> Result<(), AllocError>
         ensures { OnOk result (string_bytes text.new ≡ string_bytes text.old ++ text_of (piece_lines leads self.now)) }
@@ -94,7 +95,7 @@ impl Piece {
     }
 }
 
-/// Whether two lists of parts are the same.
+/// Returns whether `a` and `b` are the same.
 fn are_same(a: &[Part], b: &[Part]) -> bool
     ensures { result ≡ true → a.now ≡ b.now }
 {

@@ -1,3 +1,4 @@
+//! The pieces of a window, shared by the pages of one moment and the next.
 ghost use Rattle.std.specs.Prelude.{◌≡◌, ◌≤◌, ◌-◌, ◌++◌, ◌==◌, [], None, IfOk, OnOk, string_bytes, drop, flat_map, length, map};
 ghost use Rattle.std.specs.Arc.{arc_value};
 ghost use Rattle.std.specs.Option.{option_map};
@@ -15,8 +16,8 @@ use std::alloc::{AllocError, Global};
 use std::marker::Model;
 use std::sync::Arc;
 
-/// The lines of the segments of a window, written once: one piece for each finished segment, and one for the open one where it
-/// has a part. Pieces of later views share those of segments that stay the same.
+/// The lines of the segments of a window, written once: one piece for each finished segment, and one for the open segment if there
+/// is one. Pieces of later views share those of segments that stay the same.
 #[derive(Drop)]
 pub struct Pieces {
     finished: Vec<Arc<Piece>>,
@@ -38,7 +39,7 @@ impl Model for Pieces {
 }
 
 impl Pieces {
-    /// No pieces.
+    /// Returns no pieces.
     pub fn new(alloc: Global) -> Pieces
         ensures { result ≡ record { finished = []; unfinished = None } }
     {
@@ -48,8 +49,8 @@ impl Pieces {
         }
     }
 
-    /// The pieces of a view, whatever view these are of: the piece of a segment that is the same and lists the same parts is
-    /// shared, and each other is written.
+    /// Returns the pieces of `view`. They share those of these pieces whose segment and parts are the same, and each other is written.
+    /// The result doesn't depend on which view these pieces are of.
     pub fn after(&self, alloc: Global, view: &View<'_>) -> Result<Pieces, AllocError>
         ensures { IfOk result (λ p. p ≡ pieces_of view.now) }
     {
@@ -60,7 +61,7 @@ impl Pieces {
         })
     }
 
-    /// Drops the first pieces of finished segments, until there are at most so many. It takes no memory.
+    /// Drops the first pieces of finished segments, until there are at most `count`.
     pub fn keep_last(&mut self, count: usize)
         ensures { self.new ≡ record self.old { finished = drop (length self.old.finished - count) self.old.finished } }
     {
@@ -68,7 +69,7 @@ impl Pieces {
         drop_first(&mut self.finished, gone);
     }
 
-    /// The pieces of the finished segments of a window.
+    /// Returns the pieces of the finished segments of `window`.
     fn finished_after(&self, alloc: Global, window: &Window) -> Result<Vec<Arc<Piece>>, AllocError>
         ensures { IfOk result (λ pieces. map arc_value pieces.items ≡ map finished_piece window.now.window) }
     {
@@ -83,7 +84,7 @@ impl Pieces {
         Ok(finished)
     }
 
-    /// The piece of the open segment of a window, where it has a part.
+    /// Returns the piece of the open segment of `window`, if there is one.
     fn unfinished_after(
         &self,
         alloc: Global,
@@ -99,15 +100,15 @@ impl Pieces {
         Ok(Some(piece))
     }
 
-    /// What stands in the place of the finished segment of this number, as segments are numbered one after another. Whether it
-    /// is that segment's piece is seen where it's shared.
+    /// Returns the piece in the place of the finished segment `number`, as segments are numbered one after another. `Piece::of` looks whether it
+    /// is the piece of that segment.
     fn numbered(&self, number: u64) -> Option<&Arc<Piece>> {
         let first = self.finished.first()?;
         let place = number.checked_sub(first.number())?;
         self.finished.get(place as usize)
     }
 
-    /// Adds the lines of all finished segments but so many.
+    /// Appends the lines of all finished segments but the first `skipped`.
     pub(crate) fn push_finished(&self, text: &mut String, skipped: usize) -> Result<(), AllocError>
         ensures { OnOk result (string_bytes text.new ≡ string_bytes text.old
             ++ text_of (flat_map segment_lines (printed (skipped == 0) (drop skipped self.now.finished)))) }
@@ -115,7 +116,7 @@ impl Pieces {
         push_pieces(text, &self.finished, skipped)
     }
 
-    /// Adds the lines of the open segment, where there is one.
+    /// Appends the lines of the open segment, if there is one.
     pub(crate) fn push_unfinished(&self, text: &mut String) -> Result<(), AllocError>
         ensures { OnOk result (string_bytes text.new ≡ string_bytes text.old
             ++ text_of (open_lines (open_of (length self.now.finished == 0) self.now.unfinished))) }
@@ -127,7 +128,7 @@ impl Pieces {
     }
 }
 
-/// Adds the lines of all of these pieces but so many.
+/// Appends the lines of all `pieces` but the first `skipped`.
 fn push_pieces(text: &mut String, pieces: &[Arc<Piece>], skipped: usize) -> Result<(), AllocError>
     ensures { OnOk result (string_bytes text.new ≡ string_bytes text.old
         ++ text_of (joined_lines (skipped == 0) (map arc_value (drop skipped pieces.now)))) }
@@ -138,7 +139,7 @@ fn push_pieces(text: &mut String, pieces: &[Arc<Piece>], skipped: usize) -> Resu
     Ok(())
 }
 
-/// Drops the first pieces.
+/// Drops the first `n` pieces.
 fn drop_first(pieces: &mut Vec<Arc<Piece>>, n: usize)
     requires { n ≤ length pieces.old.items }
     ensures { pieces.new.items ≡ drop n pieces.old.items }

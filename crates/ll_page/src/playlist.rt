@@ -1,3 +1,4 @@
+//! Writing of full playlists and delta updates.
 ghost use Rattle.std.specs.Prelude.{◌≡◌, ◌==◌, ◌++◌, IfOk, OnOk, drop, string_bytes, map};
 ghost use Rattle.ll_page.specs.Full.{full_text, full_playlist, header_of, report_by, reports_of, hint_of, sequence_of, range_line};
 ghost use Rattle.ll_page.specs.Delta.{delta_text, delta_by, ranges_left, ids_removed};
@@ -17,10 +18,9 @@ use ll_range::Ranges;
 use ll_window::{PartPosition, Window};
 use std::alloc::{AllocError, Global};
 
-/// The text of the full Media Playlist of a view (section 4.4): the lines that tell of the channel, the date ranges in
-/// order of adding, then of each segment of the window its discontinuity, map, time and parts, its EXTINF and URI, then the
-/// same lines of the open segment, a report of each other rendition, and a hint of the next part or the end. LF ends each
-/// line.
+/// Returns the text of the full Media Playlist of `view` (section 4.4): the header; the date ranges in order of adding; of each segment of the
+/// window its discontinuity, map, time, parts, EXTINF and URI; the same of the open segment up to its parts; the Rendition Reports of the
+/// others that have a part; and the Preload Hint or the end. Each line ends in LF.
 pub fn full(alloc: Global, view: &View<'_>) -> Result<Text, AllocError>
     ensures { IfOk result (λ text. text ≡ full_text view.now) }
 {
@@ -28,10 +28,9 @@ pub fn full(alloc: Global, view: &View<'_>) -> Result<Text, AllocError>
     Ok(Text::from_string(written(alloc, view, &pieces, None)?))
 }
 
-/// The text of the delta update of a view (section 6.2.5.1): the lines of the full playlist, but that one line stands for
-/// those of the segments that are skipped (section 4.4.5.2), and none of the others leads; the full playlist where no segment
-/// is skipped. An update of kind V2 also skips the date ranges that were added longer ago than the Skip Boundary, and tells the
-/// ids of those that were removed lately.
+/// Returns the text of the delta update of `view` (section 6.2.5.1): the full playlist, with one EXT-X-SKIP line in place of the segments that are
+/// skipped (section 4.4.5.2). Of the others only broken ones have an EXT-X-MAP line. If no segment is skipped, it is the full playlist. An update
+/// of kind `V2` also skips the date ranges that were added longer ago than the Skip Boundary, and lists the ids of the recent removals.
 pub fn delta(alloc: Global, view: &View<'_>, kind: SkipKind) -> Result<Text, AllocError>
     ensures { IfOk result (λ text. text ≡ delta_text kind view.now) }
 {
@@ -39,7 +38,7 @@ pub fn delta(alloc: Global, view: &View<'_>, kind: SkipKind) -> Result<Text, All
     Ok(Text::from_string(written(alloc, view, &pieces, Some(kind))?))
 }
 
-/// The text of the delta update of this kind of a view, or of its full playlist for none, joined from the pieces of the view.
+/// Returns the text of the delta update of kind `form`, or for `None` of the full playlist, joined from the pieces of `view`.
 pub(crate) fn written(
     alloc: Global,
     view: &View<'_>,
@@ -55,8 +54,8 @@ pub(crate) fn written(
     }
 }
 
-/// The text of the playlist that skips so many segments, and, where there are any, what an update of this kind skips of date
-/// ranges, joined from the pieces of the view.
+/// Returns the text of the playlist that skips `skipped` segments and, if that isn't 0, the date ranges that an update of this kind skips, joined
+/// from the pieces of `view`.
 fn playlist(
     alloc: Global,
     view: &View<'_>,
@@ -81,7 +80,7 @@ fn playlist(
     Ok(text)
 }
 
-/// Adds the lines that stand before all date ranges and segments.
+/// Appends the lines before all date ranges and segments.
 fn push_head(text: &mut String, view: &View<'_>) -> Result<(), AllocError>
     ensures { OnOk result (string_bytes text.new ≡ string_bytes text.old ++ text_of (head_lines (full_playlist view.now))) }
 {
@@ -91,7 +90,7 @@ fn push_head(text: &mut String, view: &View<'_>) -> Result<(), AllocError>
     push_line(text, &Line::DiscontinuitySequence(window.discontinuity()))
 }
 
-/// Adds the lines that stay the same while the channel goes on.
+/// Appends the lines that depend on the settings alone.
 fn push_header(text: &mut String, settings: &Settings) -> Result<(), AllocError>
     ensures { OnOk result (string_bytes text.new ≡ string_bytes text.old ++ text_of (header_lines (header_of settings.now))) }
 {
@@ -108,7 +107,7 @@ fn push_header(text: &mut String, settings: &Settings) -> Result<(), AllocError>
     push_line(text, &Line::PartTarget(Micros(part_target)))
 }
 
-/// The media sequence number of the first segment; without one, of the open segment or else the next.
+/// Returns the Media Sequence Number of the first finished segment; without one, of the open segment or else the next.
 fn sequence(window: &Window) -> u64
     ensures { result ≡ sequence_of window.now window.now.window }
 {
@@ -118,7 +117,7 @@ fn sequence(window: &Window) -> u64
     }
 }
 
-/// Adds what stands for date ranges and for so many segments, of which there are some, in an update of this kind.
+/// Appends the lines of the date ranges and of the `skipped` segments, at least one, in an update of this kind.
 fn push_skipped(
     text: &mut String,
     alloc: Global,
@@ -144,7 +143,7 @@ fn push_skipped(
     }
 }
 
-/// Adds a line for each date range but so many, the first ones.
+/// Appends a line for each date range but the first `skipped`.
 fn push_ranges(text: &mut String, ranges: &Ranges, skipped: usize) -> Result<(), AllocError>
     ensures { OnOk result (string_bytes text.new ≡ string_bytes text.old ++ text_of (map says.DateRange (map range_line (drop skipped ranges.now.listed)))) }
 {
@@ -156,7 +155,7 @@ fn push_ranges(text: &mut String, ranges: &Ranges, skipped: usize) -> Result<(),
     Ok(())
 }
 
-/// Adds the line of a date range.
+/// Appends the line of a date range.
 fn push_range(text: &mut String, range: ll_range::DateRange<'_>) -> Result<(), AllocError>
     ensures { OnOk result (string_bytes text.new ≡ string_bytes text.old
         ++ line_text (says.DateRange (range_line (record { id = range.entry.id.now; attributes = range.entry.attributes.now; added = range.entry.added })))) }
@@ -168,7 +167,7 @@ fn push_range(text: &mut String, range: ll_range::DateRange<'_>) -> Result<(), A
     push_line(text, &line)
 }
 
-/// Adds a report of each other rendition that has a part.
+/// Appends the Rendition Report of each other rendition that has a part.
 fn push_reports(text: &mut String, view: &View<'_>) -> Result<(), AllocError>
     ensures { OnOk result (string_bytes text.new ≡ string_bytes text.old ++ text_of (map says.RenditionReport (reports_of view.now))) }
 {
@@ -182,7 +181,7 @@ fn push_reports(text: &mut String, view: &View<'_>) -> Result<(), AllocError>
     Ok(())
 }
 
-/// Adds the report of a rendition of this name, where it has a part and the playlist is not its own.
+/// Appends the Rendition Report of the rendition called `name`, unless the playlist is its own or it has no part.
 fn push_report(
     text: &mut String,
     is_asked: bool,
@@ -208,7 +207,7 @@ fn push_report(
     Ok(())
 }
 
-/// Adds the hint of the part that comes next, or the end.
+/// Appends the Preload Hint of the next part, or the end.
 fn push_last_line(text: &mut String, window: &Window) -> Result<(), AllocError>
     ensures { OnOk result (string_bytes text.new ≡ string_bytes text.old ++ line_text (last_line (hint_of window.now))) }
 {

@@ -1,4 +1,4 @@
-//! The lines of one segment that doesn't lead its playlist.
+//! Writing of the lines of one segment that isn't the first of a full playlist.
 ghost use Rattle.std.specs.Prelude.{◌≡◌, ◌≤◌, ◌/◌, ◌++◌, OnOk, false, string_bytes, map};
 ghost use Rattle.ll_attr.specs.YearEnd.{last_micro};
 ghost use Rattle.ll_line.specs.Line as says;
@@ -14,7 +14,7 @@ use ll_line::{DateTime, Line, PartLine, Uri, push_line};
 use ll_window::Segment;
 use std::alloc::AllocError;
 
-/// Adds the lines of a segment, finished or open, which lists these parts.
+/// Appends the lines of `segment`, finished or open, with the parts `parts`.
 pub(crate) fn push_segment(
     text: &mut String,
     finished: bool,
@@ -32,7 +32,7 @@ pub(crate) fn push_segment(
     }
 }
 
-/// Adds the lines of a finished segment.
+/// Appends the lines of a finished segment.
 fn push_finished(text: &mut String, segment: Segment, parts: &[Part]) -> Result<(), AllocError>
     requires { segment.time ≤ last_micro }
     ensures { OnOk result (string_bytes text.new ≡ string_bytes text.old
@@ -46,7 +46,7 @@ fn push_finished(text: &mut String, segment: Segment, parts: &[Part]) -> Result<
     push_line(text, &Line::Uri(uri))
 }
 
-/// Adds the lines of a segment that stand before its EXTINF line.
+/// Appends the lines of a segment before its EXTINF line.
 fn push_block(text: &mut String, segment: Segment, parts: &[Part]) -> Result<(), AllocError>
     requires { segment.time ≤ last_micro }
     ensures { OnOk result (string_bytes text.new ≡ string_bytes text.old
@@ -59,7 +59,7 @@ fn push_block(text: &mut String, segment: Segment, parts: &[Part]) -> Result<(),
     push_parts(text, segment.number, parts)
 }
 
-/// Adds the line of a discontinuity, where the segment is broken from the one before it.
+/// Appends the line of a discontinuity, if the segment is `broken`.
 fn push_break(text: &mut String, broken: bool) -> Result<(), AllocError>
     ensures { OnOk result (string_bytes text.new ≡ string_bytes text.old ++ text_of (break_lines broken)) }
 {
@@ -70,7 +70,7 @@ fn push_break(text: &mut String, broken: bool) -> Result<(), AllocError>
     }
 }
 
-/// Adds the line of the Media Initialization Section of this number, where it is needed.
+/// Appends the EXT-X-MAP line of the map number `number`, if it is `needed`.
 pub(crate) fn push_map(text: &mut String, needed: bool, number: u64) -> Result<(), AllocError>
     ensures { OnOk result (string_bytes text.new ≡ string_bytes text.old ++ text_of (map_lines (map_of needed number))) }
 {
@@ -81,7 +81,7 @@ pub(crate) fn push_map(text: &mut String, needed: bool, number: u64) -> Result<(
     }
 }
 
-/// Adds a line for each part of the segment of this number.
+/// Appends a line for each part of the segment with the Media Sequence Number `number`.
 fn push_parts(text: &mut String, number: u64, parts: &[Part]) -> Result<(), AllocError>
     ensures { OnOk result (string_bytes text.new ≡ string_bytes text.old ++ text_of (map says.Part (part_lines number 0 parts.now))) }
 {
@@ -97,7 +97,7 @@ fn push_parts(text: &mut String, number: u64, parts: &[Part]) -> Result<(), Allo
     Ok(())
 }
 
-/// Returns the moment `micros` microseconds after 1970-01-01T00:00:00Z, cut to milliseconds.
+/// Returns the time `micros` microseconds after 1970-01-01T00:00:00Z, cut to milliseconds.
 fn utc_time(micros: u64) -> UtcTime
     requires { micros ≤ last_micro }
     ensures { result ≡ micros / 1000 }

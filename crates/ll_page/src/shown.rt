@@ -1,3 +1,4 @@
+//! A channel at one moment, which its pages share.
 ghost use Rattle.std.specs.Prelude.{◌≡◌, ◌+◌, ◌<◌, ◌≤◌, ◌^◌, IfOk, MatchOption, None, OnErr, OnOk, length, slice_get};
 ghost use Rattle.std.specs.Arc.{arc_value};
 ghost use Rattle.ll_item.specs.Items.{rendition_of};
@@ -12,14 +13,13 @@ use std::alloc::{AllocError, Global};
 use std::marker::Model;
 use std::sync::Arc;
 
-/// A channel at one moment: its settings, what is kept of each of its renditions, and how many items it has accepted. Any number of
-/// pages may share it.
+/// A channel at one moment: its settings, what is kept of each of its renditions, and how many items it has accepted. Pages share it.
 #[derive(Drop)]
 pub struct Shown {
     kept: Arc<ChannelMoment>,
 }
 
-/// What is shared.
+/// The values that are shared.
 #[derive(Drop)]
 struct ChannelMoment {
     alloc: Global,
@@ -62,7 +62,7 @@ impl Clone for ChannelMoment {
 }
 
 impl ChannelMoment {
-    /// Takes one more item into what is kept of its rendition.
+    /// Adds an item that no rule refuses to its rendition, and counts it.
     fn accept(&mut self, item: Item) -> Result<(), AllocError>
         requires allowed { refusal_at (slice_get self.old.renditions (rendition_of item)) item ≡ None }
         requires few { self.old.count < 2 ^ 60 }
@@ -78,7 +78,7 @@ impl ChannelMoment {
 }
 
 impl Shown {
-    /// The channel of these settings, which it shares, and renditions, which has accepted so many items.
+    /// Returns a channel with `settings`, which it shares, and `renditions`, which has accepted `count` items.
     pub fn new(
         alloc: Global,
         settings: &Arc<Settings>,
@@ -98,8 +98,7 @@ impl Shown {
         })
     }
 
-    /// The channel of these settings and renditions, which has accepted so many items. It copies them, and fails only where no
-    /// memory is found.
+    /// Returns a channel with copies of `settings` and `renditions`, which has accepted `count` items.
     pub fn of(
         alloc: Global,
         settings: &Settings,
@@ -117,28 +116,28 @@ impl Shown {
         )
     }
 
-    /// The settings of the channel.
+    /// Returns the settings of the channel.
     pub fn settings(&self) -> &Settings
         ensures { result.now ≡ self.now.settings }
     {
         &self.kept.settings
     }
 
-    /// What is kept of each rendition, in the order of the settings.
+    /// Returns what is kept of each rendition, in the order of the settings.
     pub fn renditions(&self) -> &[Rendition]
         ensures { result.now ≡ self.now.renditions }
     {
         &self.kept.renditions
     }
 
-    /// How many items the channel has accepted.
+    /// Returns the number of items that the channel has accepted.
     pub fn count(&self) -> u64
         ensures { result ≡ self.now.count }
     {
         self.kept.count
     }
 
-    /// The view of the rendition with this index, where there is one.
+    /// Returns the view of the rendition with the index `rendition`, if there is one.
     pub fn view(&self, rendition: usize) -> Option<View<'_>>
         ensures { MatchOption result (length self.now.renditions ≤ rendition)
             (λ v. (rendition < length self.now.renditions) × (v ≡ seen_of self.now rendition)) }
@@ -147,7 +146,7 @@ impl Shown {
         View::new(&kept.settings, &kept.renditions, rendition, kept.count)
     }
 
-    /// The same, shared: nothing is copied.
+    /// Returns another handle of the same channel.
     pub fn again(&self) -> Result<Shown, AllocError>
         ensures { IfOk result (λ s. s ≡ self.now) }
     {
@@ -156,8 +155,8 @@ impl Shown {
         })
     }
 
-    /// Takes in one more item of the channel, which nothing refuses. Where others share what is kept, it is copied first, and they go on to
-    /// share what was. If no memory is found, nothing changes.
+    /// Adds an item that no rule refuses. If others share the channel, it is copied first, and theirs stays as it was. If memory runs out,
+    /// nothing changes.
     pub fn accept(&mut self, item: Item) -> Result<(), AllocError>
         requires allowed { refusal_at (slice_get self.old.renditions (rendition_of item)) item ≡ None }
         requires few { self.old.count < 2 ^ 60 }
@@ -170,7 +169,7 @@ impl Shown {
     }
 }
 
-/// Takes one more item into what is kept of its rendition.
+/// Adds an item that no rule refuses to its rendition.
 fn accept_at(renditions: &mut Vec<Rendition>, item: Item) -> Result<(), AllocError>
     requires { refusal_at (slice_get renditions.old.items (rendition_of item)) item ≡ None }
     ensures goes_on { OnOk result (GoOn renditions.old.items renditions.new.items item) }

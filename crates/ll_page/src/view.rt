@@ -1,3 +1,4 @@
+//! Views: what a playlist is written of.
 ghost use Rattle.std.specs.Prelude.{◌≡◌, ◌<◌, ◌≤◌, MatchOption, length};
 ghost use Rattle.ll_page.specs.Page.{update_in};
 ghost use Rattle.ll_page.specs.View.{asked};
@@ -8,7 +9,7 @@ use ll_rendition::Rendition;
 use ll_window::Window;
 use std::marker::Model;
 
-/// What a playlist is made of: a channel's settings, what is kept of each of its renditions, the rendition that is asked
+/// What a playlist is written of: a channel's settings, what is kept of each of its renditions, the rendition that is asked
 /// for, and how many items the channel has accepted.
 #[derive(Drop)]
 pub struct View<'a> {
@@ -30,7 +31,7 @@ impl<'a> Model for View<'a> {
 }
 
 impl<'a> View<'a> {
-    /// The view of the rendition with this index, where there is one.
+    /// Returns the view of the rendition with the index `rendition`, or `None` if there is none.
     pub fn new(
         settings: &'a Settings,
         renditions: &'a [Rendition],
@@ -52,50 +53,50 @@ impl<'a> View<'a> {
         })
     }
 
-    /// The settings of the channel.
+    /// Returns the settings of the channel.
     pub fn settings(&self) -> &'a Settings
         ensures { result.now ≡ self.now.settings }
     {
         self.settings
     }
 
-    /// The window of the rendition that is asked for.
+    /// Returns the window of the rendition that is asked for.
     pub fn window(&self) -> &'a Window
         ensures { result.now ≡ (asked self.now).window }
     {
         &self.asked().window
     }
 
-    /// The date ranges of the rendition that is asked for.
+    /// Returns the date ranges of the rendition that is asked for.
     pub fn ranges(&self) -> &'a Ranges
         ensures { result.now ≡ (asked self.now).ranges }
     {
         &self.asked().ranges
     }
 
-    /// What is kept of each rendition, in the order of the settings.
+    /// Returns what is kept of each rendition, in the order of the settings.
     pub fn renditions(&self) -> &'a [Rendition]
         ensures { result.now ≡ self.now.renditions }
     {
         self.renditions
     }
 
-    /// The index of the rendition that is asked for.
+    /// Returns the index of the rendition that is asked for.
     pub fn rendition(&self) -> usize
         ensures { result ≡ self.now.rendition }
     {
         self.rendition
     }
 
-    /// How many items the channel has accepted, of all renditions.
+    /// Returns how many items the channel has accepted, of all renditions.
     pub fn count(&self) -> u64
         ensures { result ≡ self.now.count }
     {
         self.count
     }
 
-    /// Which delta update its playlist is where one of this kind is asked for, or none; none where it is a full playlist, also since no
-    /// segment is skipped.
+    /// Returns the kind of delta update that the playlist is if `form` is asked for, or `None` if it is a full playlist, also because no segment is
+    /// skipped.
     pub fn update(&self, form: Option<SkipKind>) -> Option<SkipKind>
         ensures { result ≡ update_in (record { seen = self.now; form = form }) }
     {
@@ -106,7 +107,7 @@ impl<'a> View<'a> {
         Some(kind)
     }
 
-    /// What is kept of the rendition that is asked for.
+    /// Returns what is kept of the rendition that is asked for.
     #[tactic(auto, using(crate::proofs::PlaceLemmas::at_place_is))]
     fn asked(&self) -> &'a Rendition
         ensures { result.now ≡ asked self.now }

@@ -1,4 +1,4 @@
--- Pieces and of what they are made, one after another.
+-- Pieces and their sources, one after another.
 use Rattle.std.proofs.Common.{◌≡◌, ℕ, List, [], ◌∷◌, ◌++◌, refl, ap, sym, subst, ◌∙◌, append_assoc, append-nil}
 use Rattle.ll_runs.specs.declared.lengths.Lengths.{Lengths}
 use Rattle.ll_parts.specs.declared.pieces.Piece.{Piece}
@@ -10,7 +10,7 @@ abbrev pub Right : Lengths → Place → List Source → Place → Type 0
 Right l p [] q = p ≡ q
 Right l p (s ∷ later) q = IsRight l p s × Right l (after p s) later q
 
--- some pieces come from one place to another, of these units
+-- these pieces lead from one place to another, with these units
 pub record Comes (l : Lengths) (p : Place) (published : List Piece) (units : List (List ℕ)) (q : Place) : Type 0 where
   pub sources : List Source
   pub pieces : published ≡ pieces_from sources
@@ -52,7 +52,7 @@ comes-one l p s is = record {
   right = (is, refl);
 }
 
--- with the pieces and units told otherwise
+-- with equal pieces and units in place of these
 pub comes-as : (l : Lengths) (p q : Place) (a b : List Piece) (x y : List (List ℕ)) → a ≡ b → x ≡ y → Comes l p a x q → Comes l p b y q
 comes-as l p q a b x y e f c = record { sources = c.sources; pieces = sym e ∙ c.pieces; units_are = sym f ∙ c.units_are; right = c.right }
 

@@ -1,4 +1,4 @@
--- What follows from what ends before a fragment.
+-- Consequences of what ends before a fragment.
 use Rattle.std.proofs.Common.{◌≡◌, ℕ, ◌+◌, ◌-◌, ◌<◌, ◌≤◌, ◌^◌, ◌&&◌, ◌||◌, Bool, true, false, nat_lt, nat_le, if◌then◌else◌, refl, min, max, ap, sym, subst, arith}
 use Rattle.std.specs.Prelude.{⊤}
 use Rattle.std.proofs.lemmas.Bool.{le-ltb, leb-false, lt-leb}
@@ -87,7 +87,8 @@ module _ (l : Lengths) (t : Times) (size begin lasts : ℕ) (sync : Bool) (more 
   within : segment ≡ false → begin - t.segment + lasts ≤ l.most
   within e = ltb-false l.most (begin - t.segment + lasts) (or-right (nat_le l.segment (begin - t.segment) && sync) (nat_lt l.most (begin - t.segment + lasts)) e)
 
-  -- a segment that goes on with what joins is no longer than it may be, unless the part under way lasts no microsecond
+  -- a segment that goes on with the fragment that joins is no longer than allowed, unless the part under way lasts no
+  -- microsecond
   pub joins-within : cut_before l t size begin lasts sync more ≡ cut.Joins → 0 < size → t.start < begin → begin - t.segment + lasts ≤ l.most
   joins-within e some later =
       within (joins-none may segment part e (both (nat_lt 0 size) (nat_lt t.start begin) (nat_lt size_limit (size + more)) (lt-ltb 0 size some) (lt-ltb t.start begin later)))
@@ -150,7 +151,7 @@ lasts-among l scale t ticks said = by_said (nat_le said l.part)
     by_said true = first said (by_samples scale t ticks)
     by_said false = second (or_part l t.before) said (by_samples scale t ticks)
 
--- a fragment that ends a run lasts no longer than its samples say
+-- a fragment that ends a run is no longer than its samples
 pub lasts-samples : (l : Lengths) (scale : ℕ) (t : Times) (ticks : ℕ) → lasts l scale t ticks (by_samples scale t ticks) ≤ by_samples scale t ticks
 lasts-samples l scale t ticks =
     same (lasts l scale t ticks (by_samples scale t ticks)) (by_samples scale t ticks) (lasts-among l scale t ticks (by_samples scale t ticks))

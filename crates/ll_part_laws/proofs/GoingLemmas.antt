@@ -61,7 +61,7 @@ early-more l segment part (g ∷ fs) f (first, later) e =
 
 -- ---- the part under way
 
--- It has these fragments and bytes, and lasts to this microsecond of the run.
+-- The part under way has these fragments and bytes, and lasts to microsecond `to` of the run.
 pub record Going (l : Lengths) (h : Heading) (p : Place) (t : Times) (under : List ℕ) (first : Fragment) (more : List Fragment) (to : ℕ) : Type 0 where
   pub heading : h ≡ p.heading
   pub told : All (IsFragment p.movie) (first ∷ more)
@@ -94,7 +94,7 @@ piece_of h t finishes bytes duration independent = Media (record {
   finishes = finishes;
 })
 
--- as it is published
+-- the part as it is published
 module _ (l : Lengths) (h : Heading) (p : Place) (t : Times) (under : List ℕ) (first : Fragment) (more : List Fragment) (to : ℕ) (g : Going l h p t under first more to) where
   pub lasts-to : duration_to t to ≡ max 1 (time_in (first ∷ more))
   lasts-to = from t.start p.run to (time_in (first ∷ more)) g.start g.up_to

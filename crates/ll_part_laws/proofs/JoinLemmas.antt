@@ -22,7 +22,7 @@ use Rattle.ll_part_laws.proofs.GoingLemmas.{Going, bytes-more, early-more, last-
 
 -- ---- a fragment joins it, or another part begins with it
 
--- the fragment at the run's position, which tells this, comes after another
+-- the fragment at the run's position, with this decode time, comes after another
 abbrev pub Follows : Lengths → ℕ → Times → Fragment → Option ℕ → Type 0
 Follows l scale t last told =
     (t.position ≡ max last.tick (unwrap_or told (last.tick + last.ticks))) × ((last.tick - unwrap_or told (last.tick + last.ticks)) * 1000000 ≤ l.part * scale)
@@ -83,7 +83,7 @@ module _ (l : Lengths) (h : Heading) (p : Place) (t : Times) (under : List ℕ) 
   abbrev cut_is : Cut → Type 0
   cut_is c = cut_before l t (length under) begin lasts sync (length bytes) ≡ c
 
-  -- the segment under way where the fragment begins
+  -- the segment under way at the beginning of the fragment
   in-segment : begin - t.segment ≡ so_far p + time_in (first ∷ more)
   in-segment = from begin t.segment (so_far p) p.run (time_in (first ∷ more)) g.segment g.up_to
     where

@@ -1,3 +1,4 @@
+-- Lemmas of the sources of pieces, and the proofs of their laws.
 pub mod ComesLemmas
 pub mod CutLemmas
 pub mod GoingLemmas

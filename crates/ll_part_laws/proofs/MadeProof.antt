@@ -1,4 +1,4 @@
--- Of what all pieces of a stream are made.
+-- The sources of all pieces of a stream.
 use Rattle.std.specs.Prelude.{⊤}
 use Rattle.std.proofs.Common.{◌≡◌, ℕ, ◌<◌, true, List, [], ◌∷◌, ◌++◌, length, fold, is_some, Option, Some, None, Result, Ok, Err, refl, ap, sym, subst, ◌∙◌, append_assoc, arith, ◌⊎◌, inl, inr}
 use Rattle.std.proofs.lemmas.List.Elements.{All-nil}
@@ -9,7 +9,7 @@ use Rattle.ll_mp4.specs.Numbers.{◌>>=◌}
 use Rattle.ll_mp4.specs.Streams.{Told as ToldUnits, fed, told}
 use Rattle.ll_mp4.specs.declared.element.Element.{Element}
 use Rattle.ll_mp4.specs.declared.element.Element.TheVariants.{Movie, Fragment, Beside}
-use Rattle.ll_mp4.specs.declared.fault.Fault.{Fault}
+use Rattle.ll_mp4.specs.declared.fault.StreamFault.{StreamFault}
 use Rattle.ll_mp4.specs.declared.timing.Moment.{Moment}
 use Rattle.ll_mp4.specs.declared.timing.Timing.{Timing}
 use Rattle.ll_parts.specs.Joined.{beside, end_of, heard, on_stage, over, refusal, refusal_beside}
@@ -24,25 +24,25 @@ use Rattle.ll_part_laws.specs.Laws.{AreSources, IsBeside, IsOver, PartsAreMade, 
 
 -- ---- one more unit
 
-abbrev BroughtTold : Lengths → Place → List (List ℕ) → Result Brought Fault → Type 0
+abbrev BroughtTold : Lengths → Place → List (List ℕ) → Result Brought StreamFault → Type 0
 BroughtTold l p units (Ok b) = TakenTold l p b.after.movie units (record { pieces = b.pieces; after = b.after.joining })
 BroughtTold l p units (Err fault) = ⊤
 
--- a stream stands at this place, with units that are not said yet
+-- a stream is at this place, with units that aren't in a source yet
 pub record Stands (s : Stream) (p : Place) (units : List (List ℕ)) : Type 0 where
   pub movie : p.movie ≡ s.movie
   pub stage : StageTold s.joining.lengths s.joining.heading s.joining.end p s.joining.stage units
   pub waits : s.joining.lengths.ahead ≡ true
 
-unless-told : (l : Lengths) (p : Place) (units : List (List ℕ)) (fault : Option Fault) (b : Brought) → (fault ≡ None → BroughtTold l p units (Ok b)) → BroughtTold l p units (unless fault b)
+unless-told : (l : Lengths) (p : Place) (units : List (List ℕ)) (fault : Option StreamFault) (b : Brought) → (fault ≡ None → BroughtTold l p units (Ok b)) → BroughtTold l p units (unless fault b)
 unless-told l p units (Some fault) b told = tt
 unless-told l p units None b told = told refl
 
 module _ (s : Stream) (p : Place) (units : List (List ℕ)) (stands : Stands s p units) where
-  abbrev BroughtWith : List ℕ → Result Brought Fault → Type 0
+  abbrev BroughtWith : List ℕ → Result Brought StreamFault → Type 0
   BroughtWith unit b = BroughtTold s.joining.lengths p (units ++ unit ∷ []) b
 
-  as-known : (unit : List ℕ) (r : Result Element Fault) → element_of s.movie unit ≡ r → element_of p.movie unit ≡ r
+  as-known : (unit : List ℕ) (r : Result Element StreamFault) → element_of s.movie unit ≡ r → element_of p.movie unit ≡ r
   as-known unit r e = ap (λ movie. element_of movie unit) stands.movie ∙ e
 
   with-beside-told : (unit : List ℕ) (moment : Option Moment) → element_of s.movie unit ≡ Ok (Beside moment) → BroughtWith unit (with_beside s unit moment)
@@ -69,14 +69,14 @@ module _ (s : Stream) (p : Place) (units : List (List ℕ)) (stands : Stands s p
       subst (λ movie. TakenTold s.joining.lengths p movie (units ++ unit ∷ []) (heard s.joining s.joining.stage unit timing)) stands.movie
       (heard-told s.joining p s.joining.stage units unit timing stands.waits some stands.stage fine (as-known unit (Ok (Fragment timing)) e)))
 
-  element-told : (unit : List ℕ) (element : Result Element Fault) → 0 < length unit → element_of s.movie unit ≡ element → BroughtWith unit (element >>= with_element s unit)
+  element-told : (unit : List ℕ) (element : Result Element StreamFault) → 0 < length unit → element_of s.movie unit ≡ element → BroughtWith unit (element >>= with_element s unit)
   element-told unit (Err fault) some e = tt
   element-told unit (Ok (Movie movie)) some e =
       begun-told s.joining p units unit movie stands.stage (λ q same. ap (λ movie. element_of movie unit) (same ∙ stands.movie) ∙ e)
   element-told unit (Ok (Fragment timing)) some e = fragment-told unit timing some e
   element-told unit (Ok (Beside moment)) some e = with-beside-told unit moment e
 
-  -- no bytes are no fragment
+  -- no bytes aren't a fragment
   none-told : (movie : Option MovieValue) → s.movie ≡ movie → BroughtWith [] (element_of movie [] >>= with_element s [])
   none-told None e = tt
   none-told (Some movie) e = with-beside-told [] (moment_of movie []) (ap (λ movie. element_of movie []) e)
@@ -87,7 +87,7 @@ module _ (s : Stream) (p : Place) (units : List (List ℕ)) (stands : Stands s p
 
 -- ---- all units
 
--- pieces up to where nothing is under way
+-- pieces up to a place at which nothing is under way
 record Done (l : Lengths) (start : Place) (units : List (List ℕ)) (pieces : List Piece) : Type 0 where
   place : Place
   comes : Comes l start pieces units place
@@ -96,7 +96,7 @@ record Done (l : Lengths) (start : Place) (units : List (List ℕ)) (pieces : Li
 abbrev Live : Lengths → Place → List (List ℕ) → Progress → Type 0
 Live l start units p = TakenTold l start p.stream.movie units (record { pieces = p.pieces; after = p.stream.joining })
 
-abbrev ToldBy : Lengths → Place → List (List ℕ) → Progress → Option Fault → Type 0
+abbrev ToldBy : Lengths → Place → List (List ℕ) → Progress → Option StreamFault → Type 0
 ToldBy l start units p None = Live l start units p
 ToldBy l start units p (Some fault) = Done l start units p.pieces
 
@@ -124,11 +124,11 @@ own-done start units p live = by_over (stage-over p.stream.joining live.place p.
 all-done : (l : Lengths) (start : Place) (units : List (List ℕ)) (p : Progress) → Live l start units p → Done l start units (all_pieces p)
 all-done l start units p live = subst (λ l. Done l start units (all_pieces p)) live.same (own-done start units p (to-own l start units p live))
 
--- with a unit that is taken, or before one that is refused
+-- the sources with a unit that is accepted, or before one that is refused
 abbrev OneTold : Lengths → Place → List (List ℕ) → List ℕ → Progress → Type 0
 OneTold l start units unit q = Told l start (units ++ unit ∷ []) q ⊎ ((is_some q.fault ≡ true) × Told l start units q)
 
-by-own : (start : Place) (units : List (List ℕ)) (unit : List ℕ) (p : Progress) (b : Result Brought Fault) (live : Live (own p) start units p)
+by-own : (start : Place) (units : List (List ℕ)) (unit : List ℕ) (p : Progress) (b : Result Brought StreamFault) (live : Live (own p) start units p)
     → BroughtTold (own p) live.place (live.later ++ unit ∷ []) b → OneTold (own p) start units unit (advanced_by p b)
 by-own start units unit p (Err fault) live told = inr (refl, own-done start units p live)
 by-own start units unit p (Ok b) live told = inl (record {
@@ -144,7 +144,7 @@ by-own start units unit p (Ok b) live told = inl (record {
       ∙ sym (append_assoc live.said live.later (unit ∷ [])) ∙ ap (λ x. x ++ unit ∷ []) live.whole;
 })
 
-from-told : (l : Lengths) (waits : l.ahead ≡ true) (start : Place) (units : List (List ℕ)) (unit : List ℕ) (p : Progress) (fault : Option Fault) → p.fault ≡ fault → ToldBy l start units p fault
+from-told : (l : Lengths) (waits : l.ahead ≡ true) (start : Place) (units : List (List ℕ)) (unit : List ℕ) (p : Progress) (fault : Option StreamFault) → p.fault ≡ fault → ToldBy l start units p fault
     → OneTold l start units unit (advanced_from p unit fault)
 from-told l waits start units unit p (Some fault) e done = inr (ap is_some e, subst (λ fault. ToldBy l start units p fault) (sym e) done)
 from-told l waits start units unit p None e live =
@@ -153,7 +153,7 @@ from-told l waits start units unit p None e live =
     (by-own start units unit p (brought p.stream unit) mine (brought-told p.stream mine.place mine.later (record { movie = mine.movie_is; stage = mine.stage; waits = subst (λ (l : Lengths). l.ahead ≡ true) (sym live.same) waits }) unit))
 
 -- a fault stays
-from-fault : (p : Progress) (unit : List ℕ) (fault : Option Fault) → is_some fault ≡ true → advanced_from p unit fault ≡ p
+from-fault : (p : Progress) (unit : List ℕ) (fault : Option StreamFault) → is_some fault ≡ true → advanced_from p unit fault ≡ p
 from-fault p unit (Some fault) e = refl
 from-fault p unit None e = absurd (cc)
 
@@ -161,7 +161,7 @@ all-fault : (p : Progress) (units : List (List ℕ)) → is_some p.fault ≡ tru
 all-fault p [] e = refl
 all-fault p (unit ∷ units) e = ap (λ q. fold advanced q units) (from-fault p unit p.fault e) ∙ all-fault p units e
 
--- the units that are taken, and the others
+-- the accepted units, and the others
 record Folded (l : Lengths) (start : Place) (before : List (List ℕ)) (p : Progress) (units : List (List ℕ)) : Type 0 where
   taken : List (List ℕ)
   refused : List (List ℕ)
@@ -172,7 +172,7 @@ record Folded (l : Lengths) (start : Place) (before : List (List ℕ)) (p : Prog
 no-fault : (q p : Progress) (refused : List (List ℕ)) → q ≡ p → is_some p.fault ≡ true → q.fault ≡ None → refused ≡ []
 no-fault q p refused same some none = absurd (both p.fault (sym (ap (λ (q : Progress). q.fault) same) ∙ none) some)
   where
-    both : (fault : Option Fault) → fault ≡ None → is_some fault ≡ true → ⊥
+    both : (fault : Option StreamFault) → fault ≡ None → is_some fault ≡ true → ⊥
     both (Some fault) e f = absurd (cc)
     both None e f = absurd (cc)
 
@@ -207,12 +207,12 @@ fold-told l waits start before p (unit ∷ units) told =
 
 -- ---- the end
 
-ended-done : (l : Lengths) (start : Place) (units : List (List ℕ)) (p : Progress) (fault end : Option Fault) → ToldBy l start units p fault
+ended-done : (l : Lengths) (start : Place) (units : List (List ℕ)) (p : Progress) (fault end : Option StreamFault) → ToldBy l start units p fault
     → Done l start units (ended_by p fault end).pieces
 ended-done l start units p (Some fault) end done = done
 ended-done l start units p None end live = all-done l start units p live
 
-ended-none : (p : Progress) (fault end : Option Fault) → (ended_by p fault end).fault ≡ None → fault ≡ None
+ended-none : (p : Progress) (fault end : Option StreamFault) → (ended_by p fault end).fault ≡ None → fault ≡ None
 ended-none p (Some fault) end e = e
 ended-none p None end e = refl
 

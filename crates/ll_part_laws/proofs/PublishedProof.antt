@@ -1,4 +1,4 @@
--- What holds of the pieces of a stream by themselves, by what holds of their fragments.
+-- The durations of published segments follow from those of their fragments.
 use Rattle.std.proofs.Common.{◌≡◌, ℕ, ◌+◌, ◌<◌, ◌≤◌, ◌==◌, Bool, true, false, List, [], ◌∷◌, if◌then◌else◌, is_none, Option, Some, None, refl, ap, sym, subst, ◌∙◌, max, arith}
 use borrow.Author.Tests.{eqb-true}
 use Rattle.std.proofs.lemmas.Bool.{eqb-false}
@@ -6,7 +6,7 @@ use Rattle.ll_mp4.specs.Movies.{MovieValue}
 use Rattle.ll_parts.specs.Joined.{heading_of}
 use Rattle.ll_parts.specs.declared.heading.Heading.{Heading}
 use Rattle.ll_runs.specs.declared.lengths.Lengths.{Lengths}
-use Rattle.ll_parts.specs.declared.pieces.Part.{Part as Published}
+use Rattle.ll_parts.specs.declared.pieces.MediaPart.{MediaPart as Published}
 use Rattle.ll_shift.specs.Moved.{moved}
 use Rattle.ll_part_laws.proofs.MadeProof.{parts_are_made}
 use Rattle.ll_part_laws.specs.Laws.{AreRight, IsCutFrom, IsPart, IsGap, IsOver, Jump, Place, after, after_part, at_end, at_first, is_between, longest, so_far}
@@ -16,7 +16,7 @@ use Rattle.ll_part_laws.specs.Published.{AreFitting, IsBegun, IsFitting, IsLong,
 abbrev published_part : Made → Published
 published_part m = record { bytes = moved m.shift m.scales (bytes_in (fragments m)); duration = max 1 (time m); independent = m.first.sync; finishes = m.finishes }
 
--- the sum stands for the place
+-- the sum is that of the place
 record Tie (p : Place) (begins : Bool) (s : Sum) : Type 0 where
   run : is_none p.before ≡ begins
   ended : is_between p.before ≡ s.ended
@@ -34,7 +34,7 @@ over-between jump (Some m) over = over.0
 tie-first : (movie : Option MovieValue) (h : Heading) (jump : Option Jump) (end : ℕ) → Tie (at_end movie h jump end) true no_sum
 tie-first movie h jump end = record { run = refl; ended = refl; few = omega arith; enough = omega arith }
 
--- a part is said to last as long as its fragments, or one microsecond
+-- a published part lasts as long as its fragments, or one microsecond
 least-more : (time : ℕ) → max 1 time ≤ time + (if max 1 time == 1 then 1 else 0)
 least-more time = by_test (max 1 time == 1) refl
   where

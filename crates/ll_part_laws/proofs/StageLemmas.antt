@@ -8,8 +8,8 @@ use Rattle.std.specs.Option.{unwrap_or}
 use Rattle.ll_mp4.specs.Elements.{element_of}
 use Rattle.ll_mp4.specs.Movies.{MovieValue}
 use Rattle.ll_mp4.specs.declared.element.Element.TheVariants as element
-use Rattle.ll_mp4.specs.declared.fault.Fault.{Fault}
-use Rattle.ll_mp4.specs.declared.fault.Fault.TheVariants.{TooLarge, TooLong}
+use Rattle.ll_mp4.specs.declared.fault.StreamFault.{StreamFault}
+use Rattle.ll_mp4.specs.declared.fault.StreamFault.TheVariants.{TooLarge, TooLong}
 use Rattle.ll_mp4.specs.declared.timing.Timing.{Timing}
 use borrow.Author.Tests.{ltb-false}
 use Rattle.ll_parts.proofs.OtherLemmas.{one_more}
@@ -92,13 +92,13 @@ pub record SilentTold (h : Heading) (end : ℕ) (p : Place) (lead : List ℕ) (u
   pub beside : All (IsBeside p.movie) units
   pub own : concat units ≡ lead
 
--- where parts wait, no fragment is a part by itself
+-- if parts wait, no fragment is a part by itself
 abbrev pub StageTold : Lengths → Heading → ℕ → Place → Stage → List (List ℕ) → Type 0
 StageTold l h end p (Silent lead) units = SilentTold h end p lead units
 StageTold l h end p (Under held t under) units = HeldTold l h p held t under units
 StageTold l h end p (Prompt lead t) units = ⊥
 
--- the pieces that an element brings, and the stage after it, have these units; and this movie was the last
+-- the pieces that an element completes, and the stage after it, have these units; `movie` was the last
 pub record TakenTold (l : Lengths) (p : Place) (movie : Option MovieValue) (units : List (List ℕ)) (taken : Taken) : Type 0 where
   pub same : taken.after.lengths ≡ l
   pub place : Place
@@ -134,33 +134,33 @@ after-some xs ys some = let e = length-append xs ys in omega (arith, e, some)
 
 -- ---- what isn't refused is counted
 
-by-none : (b : Bool) (other : Option Fault) → refusal_by b other ≡ None → other ≡ None
+by-none : (b : Bool) (other : Option StreamFault) → refusal_by b other ≡ None → other ≡ None
 by-none true other e = absurd (cc)
 by-none false other e = e
 
 of-none : (scale end size : ℕ) → refusal_of scale end size ≡ None → is_counted scale end ≡ true
 of-none scale end size e = by_test (is_counted scale end) e
   where
-    by_test : (b : Bool) → (if◌then◌else◌ {A = Option Fault} (not b) (Some TooLong) (if nat_lt size_limit size then Some TooLarge else None)) ≡ None → b ≡ true
+    by_test : (b : Bool) → (if◌then◌else◌ {A = Option StreamFault} (not b) (Some TooLong) (if nat_lt size_limit size then Some TooLarge else None)) ≡ None → b ≡ true
     by_test true e = refl
     by_test false e = absurd (cc)
 
 of-small : (scale end size : ℕ) → refusal_of scale end size ≡ None → size ≤ size_limit
 of-small scale end size e = ltb-false size_limit size (by_test (is_counted scale end) (nat_lt size_limit size) e)
   where
-    by_test : (b c : Bool) → (if◌then◌else◌ {A = Option Fault} (not b) (Some TooLong) (if c then Some TooLarge else None)) ≡ None → c ≡ false
+    by_test : (b c : Bool) → (if◌then◌else◌ {A = Option StreamFault} (not b) (Some TooLong) (if c then Some TooLarge else None)) ≡ None → c ≡ false
     by_test true false e = refl
     by_test true true e = absurd (cc)
     by_test false c e = absurd (cc)
 
--- where parts wait, the first fragment of a movie is held
+-- if parts wait, the first fragment of a movie is held
 silent-none : (j : Joining) (lead : List ℕ) (size : ℕ) (timing : Timing) → j.lengths.ahead ≡ true → refusal j (Silent lead) size timing ≡ None
     → refusal_by (is_long j.lengths j.heading.scale true timing.ticks) (refusal_of j.heading.scale (first_time timing.time + timing.ticks) (length lead + size)) ≡ None
 unfolding refusal
 silent-none j lead size timing waits e =
     subst
     (λ b.
-    (if◌then◌else◌ {A = Option Fault} b
+    (if◌then◌else◌ {A = Option StreamFault} b
     (refusal_by (is_long j.lengths j.heading.scale true timing.ticks) (refusal_of j.heading.scale (first_time timing.time + timing.ticks) (length lead + size)))
     (refusal_at j.lengths j.heading.scale (first_times j timing) timing.ticks (length lead + size)))
     ≡ None)
@@ -184,7 +184,7 @@ under-small j held t under size timing e =
 pub beside-small : (stage : Stage) (size : ℕ) → refusal_beside stage size ≡ None → size_of stage + size ≤ size_limit
 beside-small stage size e = ltb-false size_limit (size_of stage + size) (by_test (nat_lt size_limit (size_of stage + size)) e)
   where
-    by_test : (b : Bool) → (if◌then◌else◌ {A = Option Fault} b (Some TooLarge) None) ≡ None → b ≡ false
+    by_test : (b : Bool) → (if◌then◌else◌ {A = Option StreamFault} b (Some TooLarge) None) ≡ None → b ≡ false
     by_test false e = refl
     by_test true e = absurd (cc)
 
@@ -266,7 +266,7 @@ first-same (Some time) = refl
 new-small : (lead bytes : List ℕ) → length lead + length bytes ≤ size_limit → length (lead ++ bytes) + length (bytes_of []) ≤ size_limit
 new-small lead bytes few = let e = length-append lead bytes in omega (arith, e, few)
 
--- the step that the next fragment brings
+-- the step that the next fragment makes
 abbrev step_at : Joining → Held → Times → List ℕ → Timing → Step
 step_at j held t under timing = step_of j.lengths j.heading t under (group_of held (take (parting j.lengths j.heading.scale held t timing.time).count held.since)) (parting j.lengths j.heading.scale held t timing.time).next
 

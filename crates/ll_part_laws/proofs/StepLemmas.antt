@@ -1,4 +1,4 @@
--- A fragment of which it is known what comes after it.
+-- A fragment whose successor is known.
 use Rattle.std.proofs.Common.{◌≡◌, ◌≢◌, ℕ, ◌+◌, ◌-◌, ◌*◌, ◌<◌, ◌≤◌, ◌^◌, Bool, true, false, List, [], ◌∷◌, ◌++◌, length, nat_lt, nat_le, if◌then◌else◌, Option, Some, None, refl, ap, sym, subst, ◌∙◌, min, max, append_assoc, append-nil, arith, inl, inr}
 use Rattle.std.specs.Prelude.{⊤}
 use Rattle.std.specs.List.{concat}
@@ -68,7 +68,7 @@ base-same cut.Joins t size begin lasts sync = refl
 base-same cut.Part t size begin lasts sync = refl
 base-same cut.Segment t size begin lasts sync = refl
 
--- a tick that is later than the one before by more than nothing is the one that is told
+-- a tick that is later than the one before is the decode time itself
 told-later : (scale base position time tick part : ℕ) → tick ≡ max position time → part < micros scale (tick - base) - micros scale (position - base) → tick ≡ time
 told-later scale base position time tick part e far = by_test (nat_le time position) refl
   where
@@ -82,7 +82,7 @@ told-later scale base position time tick part e far = by_test (nat_le time posit
         none n part less = omega (arith, less)
     by_test false f = let more = leb-false time position f in omega (arith, e, more)
 
--- ---- what a step says
+-- ---- the pieces of a step
 
 pub record StepTold (l : Lengths) (h : Heading) (p : Place) (units : List (List ℕ)) (told : Option ℕ) (s : Step) : Type 0 where
   pub place : Place
@@ -93,7 +93,7 @@ pub record StepTold (l : Lengths) (h : Heading) (p : Place) (units : List (List 
   pub opened : Open l h place s.onward.times s.onward.bytes carried told
   pub whole : said ++ carried ≡ units
 
--- what the last step of a movie says
+-- the pieces of the last step of a movie
 pub record OverTold (l : Lengths) (p : Place) (pieces : List Piece) (units : List (List ℕ)) (end : ℕ) : Type 0 where
   pub place : Place
   pub comes : Comes l p pieces units place
@@ -226,7 +226,7 @@ module _ (l : Lengths) (h : Heading) (p : Place) (t : Times) (under : List ℕ) 
 
 -- ---- a step
 
--- the next one, which tells this, goes back, or begins no earlier
+-- the next one, with this decode time, goes back or begins no earlier
 abbrev pub IsAhead : Lengths → ℕ → ℕ → ℕ → Option ℕ → Next → Type 0
 IsAhead l scale position ticks told Over = ⊤
 IsAhead l scale position ticks told (Back tick) = (goes_back l scale position tick ≡ true) × (tick ≡ unwrap_or told (position + ticks))

@@ -1,4 +1,4 @@
--- Of what a stream's pieces are made: fragments of the governing track, each with what goes with it.
+-- The sources of a stream's pieces: fragments of the governing track, each with the units that go with it.
 use Rattle.std.specs.Prelude.{ℕ, ◌+◌, Bool, List, [], ◌∷◌, ◌++◌, Option, max}
 use Rattle.std.specs.List.{concat}
 use Rattle.ll_mp4.specs.Movies.{MovieValue}
@@ -10,21 +10,21 @@ use Rattle.ll_shift.specs.declared.shift.Shift.{Shift}
 
 -- ---- fragments
 
--- a fragment of the governing track, with what goes with it
+-- a fragment of the governing track, with the units that go with it
 pub record Fragment : Type 0 where
   -- units of the input that came before it
   pub lead : List (List ℕ)
-  -- the unit that it is
+  -- its own unit
   pub unit : List ℕ
   -- units that came after it
   pub rest : List (List ℕ)
-  -- the decode time that it tells, if any
+  -- its decode time, if any
   pub told : Option ℕ
-  -- for how many ticks its samples last
+  -- the duration of its samples, in ticks
   pub ticks : ℕ
   -- the tick at which it begins
   pub tick : ℕ
-  -- for how many microseconds it lasts
+  -- its duration, in microseconds
   pub lasts : ℕ
   -- whether it begins with a sync sample
   pub sync : Bool
@@ -32,11 +32,11 @@ pub record Fragment : Type 0 where
 abbrev pub units : Fragment → List (List ℕ)
 units f = f.lead ++ f.unit ∷ f.rest
 
--- their bytes, before their times are moved
+-- its bytes, before their times are moved
 abbrev pub bytes_of : Fragment → List ℕ
 bytes_of f = concat (units f)
 
--- for how many microseconds fragments last together
+-- the duration of fragments together, in microseconds
 abbrev pub time_in : List Fragment → ℕ
 time_in [] = 0
 time_in (f ∷ later) = f.lasts + time_in later
@@ -51,8 +51,8 @@ units_in (f ∷ later) = units f ++ units_in later
 
 -- ---- parts
 
--- a part: the fragment with which it begins, those that joined it, how its times are moved, the time scales of its tracks, the tick from which the program's time is counted, and
--- whether it is the last of its segment
+-- a part: its first fragment, those that joined it, the move of its times, the time scales of its tracks, the tick from which the program's time is
+-- counted, and whether it is the last of its segment
 pub record Made : Type 0 where
   pub first : Fragment
   pub more : List Fragment
@@ -68,15 +68,15 @@ abbrev pub last_in : Fragment → List Fragment → Fragment
 last_in f [] = f
 last_in f (next ∷ later) = last_in next later
 
--- the last fragment of it
+-- the last fragment of a part
 abbrev pub last_of : Made → Fragment
 last_of m = last_in m.first m.more
 
--- for how many microseconds it lasts
+-- its duration, in microseconds
 abbrev pub time : Made → ℕ
 time m = time_in (fragments m)
 
--- how it is published: one that lasts no microsecond is said to last one
+-- the published part; one of less than a microsecond lasts one
 abbrev pub part_from : Made → Piece
 part_from m = piece.Media (record {
   bytes = moved m.shift m.scales (bytes_in (fragments m));
@@ -87,15 +87,15 @@ part_from m = piece.Media (record {
 
 -- ---- all pieces
 
--- of what pieces are made
+-- the source of pieces
 pub data Source : Type 0 where
   -- the initialization section of a movie that begins, and what it says
   Movie : List ℕ → MovieValue → Source
   -- a part
   Part : Made → Source
-  -- a break, the tick at which the next fragment begins, and the section that is said again
+  -- a break, the tick at which the next fragment begins, and the initialization section that comes again
   Gap : Option ℕ → ℕ → List ℕ → Source
-  -- the units of a movie without any fragment of its governing track: nothing is published of them
+  -- the units of a movie without any fragment of its governing track, of which nothing is published
   Lost : List (List ℕ) → Source
 
 abbrev pub pieces_of : Source → List Piece
@@ -108,7 +108,7 @@ abbrev pub pieces_from : List Source → List Piece
 pieces_from [] = []
 pieces_from (s ∷ later) = pieces_of s ++ pieces_from later
 
--- the units that came for it
+-- the units of a source
 abbrev pub units_of : Source → List (List ℕ)
 units_of (Movie section movie) = section ∷ []
 units_of (Part m) = units_in (fragments m)

@@ -6,21 +6,22 @@ ghost use Rattle.ll_part_laws.specs.Laws.{PartsAreMade};
 ghost use Rattle.ll_part_laws.specs.Published.{SegmentsFit};
 ghost use Rattle.ll_part_laws.specs.Worked.{WorkedParts};
 
-/// Says of what the pieces of an encoder's stream are made where parts wait for the fragment after them: fragments in the order in which they came, none of which is lost but
-/// of a movie that has none of its governing track. Each begins at the tick that it tells, durations never drift from that, and times go on where the rendition ended. A part
-/// is full where its segment goes on; a segment begins with a sync sample and is long enough unless it would have been too long, and is no longer than it may be; a break
-/// stands only where it is due.
+/// States of what the pieces of an encoder's stream are made if parts wait for the fragment after them: of its fragments, in the order in which they
+/// came. None is lost, except the units of a movie that has no fragment of its governing track. Each fragment begins at its own decode time,
+/// durations never drift from that, and times continue from the end of the rendition. A part is full if its segment goes on. A segment begins with a
+/// sync sample unless the one before it would have been too long, is long enough unless it would itself have been too long, and is no longer than
+/// allowed. A break comes only when it is due.
 pub fn parts_law()
     ensures { PartsAreMade }
 {}
 
-/// Says what holds of the pieces by themselves where parts wait for the fragment after them: a segment's parts together are no longer than it may be, and it begins independent
-/// where the one before it need not be cut.
+/// States what holds of the pieces by themselves if parts wait for the fragment after them: a segment's parts together are no longer than allowed,
+/// and it begins independent unless the one before it had to be cut.
 pub fn segments_law()
     ensures { SegmentsFit }
 {}
 
-/// Says what the definitions come to at a worked example.
+/// States the values of the definitions at a worked example.
 pub fn worked_parts()
     ensures { WorkedParts }
 {}

@@ -1,3 +1,4 @@
+-- Lemmas of parts, segments and streams.
 pub mod OtherLemmas
 pub mod PartLemmas
 pub mod SegmentLemmas

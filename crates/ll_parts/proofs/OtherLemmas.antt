@@ -1,4 +1,4 @@
--- One other more.
+-- One more element between two fragments.
 use Rattle.std.proofs.Common.{◌≡◌, ◌+◌, List, [], ◌∷◌, ◌++◌, length, length-append, arith}
 use Rattle.ll_parts.specs.Others.{bytes_of}
 use Rattle.ll_parts.specs.declared.others.Other.{Other}

@@ -1,4 +1,4 @@
--- How long parts are.
+-- The durations of parts.
 use Rattle.std.specs.Prelude.{⊤}
 use Rattle.std.proofs.Common.{◌≡◌, ℕ, drop, fold, not, take, Result, Ok, Err, ◌+◌, ◌-◌, ◌^◌, ◌<◌, ◌≤◌, ◌==◌, ◌≢◌, ◌&&◌, ◌||◌, Bool, true, false, List, [], ◌∷◌, ◌++◌, length, length-append, nat_lt, nat_le, if◌then◌else◌, Option, Some, None, refl, ap, sym, subst, ◌∙◌, min, max, arith}
 use borrow.Author.Tests.{le-leb, leb-true, ltb-false}
@@ -12,8 +12,8 @@ use Rattle.ll_mp4.specs.Numbers.{◌>>=◌}
 use Rattle.ll_mp4.specs.Streams.{fed, told}
 use Rattle.ll_mp4.specs.declared.element.Element.{Element}
 use Rattle.ll_mp4.specs.declared.element.Element.TheVariants.{Movie, Fragment, Beside}
-use Rattle.ll_mp4.specs.declared.fault.Fault.{Fault}
-use Rattle.ll_mp4.specs.declared.fault.Fault.TheVariants.{TooLarge, TooLong}
+use Rattle.ll_mp4.specs.declared.fault.StreamFault.{StreamFault}
+use Rattle.ll_mp4.specs.declared.fault.StreamFault.TheVariants.{TooLarge, TooLong}
 use Rattle.ll_mp4.specs.declared.timing.Moment.{Moment}
 use Rattle.ll_mp4.specs.declared.timing.Timing.{Timing}
 use Rattle.ll_parts.specs.Joined.{Joining, Taken, begun, beside, first_time, first_times, followed, group_of, heard, held_of, on_stage, over, parting, refusal, refusal_beside, said_after, said_before, step_of, with_group, with_part}
@@ -57,7 +57,7 @@ lasts-fits l scale t ticks said = by_said (nat_le said l.part) refl
     by_said true e = leb-true said l.part e
     by_said false e = let few = or-fits l t.before in omega (arith, few)
 
--- ---- one that joins a part leaves it no longer than a part may be
+-- ---- one that joins a part leaves it no longer than a part is allowed to be
 
 pub or-right : (a b : Bool) → (a || b) ≡ false → b ≡ false
 or-right false b e = e
@@ -170,7 +170,7 @@ module _ (l : Lengths) (h : Heading) (t : Times) (under : List ℕ) (group : Gro
         (before-short l h t under begin end_cut inside.0)
         (after-short l h times (with_group end_cut under group.bytes) (min (begin + long) (2 ^ 64 - 1)) (ends_run l said next) next (omega (arith, fits)))
 
-  -- the next fragment stands inside too
+  -- the next fragment is inside too
   at-inside : (tick : ℕ) (b : Bool) → nat_lt l.part (said (At tick)) ≡ b → 0 < length group.bytes
       → Inside l h.scale (times_after (times (At tick)) (min (begin + long (At tick)) (2 ^ 64 - 1)) b (At tick)) (length (if◌then◌else◌ {A = List ℕ} b [] (with_group (end_cut (At tick)) under group.bytes)))
   at-inside tick true e some = fresh-inside l h.scale tick (rendition_end (times (At tick)) (min (begin + long (At tick)) (2 ^ 64 - 1))) (times (At tick)).origin 0
@@ -237,7 +237,7 @@ between-short l h t next = by_end (ends_before t next)
     by_end true = All-append (IsShort l) (finish t) (ending h t next) (finish-short l t) (ending-short l h t next)
     by_end false = All-nil (IsShort l)
 
-pub not-long : (b : Bool) (other : Option Fault) → (if◌then◌else◌ {A = Option Fault} b (Some TooLong) other) ≡ None → b ≡ false
+pub not-long : (b : Bool) (other : Option StreamFault) → (if◌then◌else◌ {A = Option StreamFault} b (Some TooLong) other) ≡ None → b ≡ false
 not-long true other e = absurd (cc)
 not-long false other e = refl
 
@@ -261,7 +261,7 @@ heard-fits j (Silent lead) bytes timing some none fits = by_ahead j.lengths.ahea
   where
     by_ahead : (b : Bool)
         → (
-        if◌then◌else◌ {A = Option Fault} b
+        if◌then◌else◌ {A = Option StreamFault} b
         (refusal_by (is_long j.lengths j.heading.scale true timing.ticks) (refusal_of j.heading.scale (first_time timing.time + timing.ticks) (length lead + length bytes)))
         (refusal_at j.lengths j.heading.scale (first_times j timing) timing.ticks (length lead + length bytes))
         )
@@ -301,11 +301,11 @@ beside-fits l scale (Prompt lead t) other fits = tt
 
 -- ---- one more unit
 
-abbrev pub BroughtFits : Joining → Result Brought Fault → Type 0
+abbrev pub BroughtFits : Joining → Result Brought StreamFault → Type 0
 BroughtFits j (Ok brought) = TakenFits j.lengths (record { pieces = brought.pieces; after = brought.after.joining })
 BroughtFits j (Err fault) = ⊤
 
-unless-fits : (j : Joining) (fault : Option Fault) (b : Brought) → (fault ≡ None → BroughtFits j (Ok b)) → BroughtFits j (unless fault b)
+unless-fits : (j : Joining) (fault : Option StreamFault) (b : Brought) → (fault ≡ None → BroughtFits j (Ok b)) → BroughtFits j (unless fault b)
 unless-fits j (Some fault) b fits = tt
 unless-fits j None b fits = fits refl
 
@@ -316,7 +316,7 @@ with-beside-fits s unit moment fits =
     unless-fits s.joining (refusal_beside s.joining.stage (length unit)) (record { pieces = []; after = record s { joining = on_stage s.joining (beside s.joining.stage other) } })
     (λ _. (refl, All-nil (IsShort s.joining.lengths), beside-fits s.joining.lengths s.joining.heading.scale s.joining.stage other fits))
 
-element-fits : (s : Stream) (unit : List ℕ) (element : Result Element Fault) → 0 < length unit → StageFits s.joining.lengths s.joining.heading.scale s.joining.stage
+element-fits : (s : Stream) (unit : List ℕ) (element : Result Element StreamFault) → 0 < length unit → StageFits s.joining.lengths s.joining.heading.scale s.joining.stage
     → BroughtFits s.joining (element >>= with_element s unit)
 element-fits s unit (Err fault) some fits = tt
 element-fits s unit (Ok (Movie movie)) some fits = begun-fits s.joining unit movie fits
@@ -325,7 +325,7 @@ element-fits s unit (Ok (Fragment timing)) some fits =
     (λ none. heard-fits s.joining s.joining.stage unit timing some none fits)
 element-fits s unit (Ok (Beside moment)) some fits = with-beside-fits s unit moment fits
 
--- no bytes are no fragment
+-- no bytes aren't a fragment
 none-fits : (s : Stream) (movie : Option MovieValue) → StageFits s.joining.lengths s.joining.heading.scale s.joining.stage
     → BroughtFits s.joining (element_of movie [] >>= with_element s [])
 none-fits s None fits = tt
@@ -353,11 +353,11 @@ all-own p (same, short, fits) =
 all-fits : (l : Lengths) (p : Progress) → ProgressFits l p → All (IsShort l) (all_pieces p)
 all-fits l p fits = subst (λ l. All (IsShort l) (all_pieces p)) fits.0 (all-own p (to-own l p fits))
 
-by-own : (p : Progress) (b : Result Brought Fault) → ProgressFits (own p) p → BroughtFits p.stream.joining b → ProgressFits (own p) (advanced_by p b)
+by-own : (p : Progress) (b : Result Brought StreamFault) → ProgressFits (own p) p → BroughtFits p.stream.joining b → ProgressFits (own p) (advanced_by p b)
 by-own p (Err fault) fits brought = (refl, all-own p fits, tt)
 by-own p (Ok b) (same, short, fits) (kept, brings, after) = (kept, All-append (IsShort (own p)) p.pieces b.pieces short brings, after)
 
-from-fits : (l : Lengths) (p : Progress) (unit : List ℕ) (fault : Option Fault) → ProgressFits l p → ProgressFits l (advanced_from p unit fault)
+from-fits : (l : Lengths) (p : Progress) (unit : List ℕ) (fault : Option StreamFault) → ProgressFits l p → ProgressFits l (advanced_from p unit fault)
 from-fits l p unit (Some fault) fits = fits
 from-fits l p unit None fits =
     let mine = to-own l p fits in
@@ -367,7 +367,7 @@ fold-fits : (l : Lengths) (p : Progress) (units : List (List ℕ)) → ProgressF
 fold-fits l p [] fits = fits
 fold-fits l p (unit ∷ units) fits = fold-fits l (advanced p unit) units (from-fits l p unit p.fault fits)
 
-ended-fits : (l : Lengths) (p : Progress) (fault end : Option Fault) → ProgressFits l p → All (IsShort l) (ended_by p fault end).pieces
+ended-fits : (l : Lengths) (p : Progress) (fault end : Option StreamFault) → ProgressFits l p → All (IsShort l) (ended_by p fault end).pieces
 ended-fits l p (Some fault) end fits = fits.1
 ended-fits l p None end fits = all-fits l p fits
 

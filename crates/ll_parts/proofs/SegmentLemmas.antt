@@ -1,4 +1,4 @@
--- How long segments are, where each fragment is a part.
+-- The durations of segments, if each fragment is a part.
 use Rattle.std.specs.Prelude.{⊤}
 use Rattle.std.proofs.Common.{◌≡◌, ℕ, fold, Result, Ok, Err, ◌+◌, ◌-◌, ◌<◌, ◌≤◌, ◌≢◌, ◌||◌, Bool, true, false, List, [], ◌∷◌, ◌++◌, length, nat_lt, nat_le, not, if◌then◌else◌, Option, Some, None, refl, ap, sym, subst, ◌∙◌, arith}
 use borrow.Author.Tests.{ltb-true, ltb-false, leb-true}
@@ -9,8 +9,8 @@ use Rattle.ll_mp4.specs.Numbers.{◌>>=◌}
 use Rattle.ll_mp4.specs.Streams.{fed, told}
 use Rattle.ll_mp4.specs.declared.element.Element.{Element}
 use Rattle.ll_mp4.specs.declared.element.Element.TheVariants.{Movie, Fragment, Beside}
-use Rattle.ll_mp4.specs.declared.fault.Fault.{Fault}
-use Rattle.ll_mp4.specs.declared.fault.Fault.TheVariants.{TooLarge}
+use Rattle.ll_mp4.specs.declared.fault.StreamFault.{StreamFault}
+use Rattle.ll_mp4.specs.declared.fault.StreamFault.TheVariants.{TooLarge}
 use Rattle.ll_mp4.specs.declared.timing.Moment.{Moment}
 use Rattle.ll_mp4.specs.declared.timing.Timing.{Timing}
 use Rattle.ll_parts.proofs.PartLemmas.{not-long, or-right}
@@ -33,9 +33,9 @@ use Rattle.ll_runs.specs.declared.times.Next.{Next}
 use Rattle.ll_runs.specs.declared.times.Next.TheVariants.{Over, Back, At}
 use Rattle.ll_runs.specs.declared.times.Times.{Times}
 
--- ---- pieces after which a segment may be open
+-- ---- pieces after which a segment can be open
 
--- from a segment that is so long to one that is
+-- from a segment of one duration to one of another
 abbrev Goes : ℕ → ℕ → List Piece → ℕ → Type 0
 Goes most n [] m = n ≡ m
 Goes most n (piece ∷ pieces) m = GoesOn most n piece × Goes most (open_after n piece) pieces m
@@ -50,7 +50,7 @@ all-go most n (x ∷ xs) (step, rest) = (step, all-go most (open_after n x) xs r
 
 -- ---- stages
 
--- what is open of a segment
+-- the open segment lasts n microseconds, and one more part fits into it
 abbrev IsOpen : Lengths → ℕ → Stage → Type 0
 IsOpen l n (Silent lead) = n ≡ 0
 IsOpen l n (Under held t under) = ⊥
@@ -68,7 +68,7 @@ ending-goes most h t Over = refl
 ending-goes most h t (Back tick) = (refl, (refl, refl))
 ending-goes most h t (At tick) = (refl, (refl, refl))
 
--- what is said before a fragment, and what is open after it
+-- the pieces before a fragment, and what is open after them
 abbrev Between : Lengths → ℕ → Heading → Times → Next → Type 0
 Between l n h t next = (m : ℕ) × Goes l.most n (said_between h t next) m × ((times_at t next).start ≡ (times_at t next).segment + m) × (m + l.part ≤ l.most)
 
@@ -150,7 +150,7 @@ heard-goes j n (Silent lead) bytes timing (ahead, few) none opened = by_ahead j.
   where
     by_ahead : (b : Bool) → b ≡ false
         → (
-        if◌then◌else◌ {A = Option Fault} b
+        if◌then◌else◌ {A = Option StreamFault} b
         (refusal_by (is_long j.lengths j.heading.scale true timing.ticks) (refusal_of j.heading.scale (first_time timing.time + timing.ticks) (length lead + length bytes)))
         (refusal_at j.lengths j.heading.scale (first_times j timing) timing.ticks (length lead + length bytes))
         )
@@ -183,11 +183,11 @@ beside-opened l n (Prompt lead t) other opened = opened
 
 -- ---- one more unit
 
-abbrev BroughtGoes : Joining → ℕ → Result Brought Fault → Type 0
+abbrev BroughtGoes : Joining → ℕ → Result Brought StreamFault → Type 0
 BroughtGoes j n (Ok brought) = TakenGoes j.lengths n (record { pieces = brought.pieces; after = brought.after.joining })
 BroughtGoes j n (Err fault) = ⊤
 
-unless-goes : (j : Joining) (n : ℕ) (fault : Option Fault) (b : Brought) → (fault ≡ None → BroughtGoes j n (Ok b)) → BroughtGoes j n (unless fault b)
+unless-goes : (j : Joining) (n : ℕ) (fault : Option StreamFault) (b : Brought) → (fault ≡ None → BroughtGoes j n (Ok b)) → BroughtGoes j n (unless fault b)
 unless-goes j n (Some fault) b goes = tt
 unless-goes j n None b goes = goes refl
 
@@ -199,7 +199,7 @@ beside-goes s n unit moment opened =
     (record { pieces = []; after = record s { joining = on_stage s.joining (beside s.joining.stage other) } })
     (λ _. (n, refl, refl, beside-opened s.joining.lengths n s.joining.stage other opened))
 
-element-goes : (s : Stream) (n : ℕ) (unit : List ℕ) (element : Result Element Fault) → IsPrompt s.joining.lengths → IsOpen s.joining.lengths n s.joining.stage
+element-goes : (s : Stream) (n : ℕ) (unit : List ℕ) (element : Result Element StreamFault) → IsPrompt s.joining.lengths → IsOpen s.joining.lengths n s.joining.stage
     → BroughtGoes s.joining n (element >>= with_element s unit)
 element-goes s n unit (Err fault) prompt opened = tt
 element-goes s n unit (Ok (Movie movie)) prompt opened = begun-goes s.joining n unit movie opened
@@ -227,20 +227,20 @@ all-goes : (l : Lengths) (p : Progress) → ProgressGoes l p → Goes l.most 0 (
 all-goes l p goes = subst (λ l. Goes l.most 0 (all_pieces p) 0) goes.1 (all-own p (to-own l p goes))
 
 -- after a fault nothing is open
-abbrev Whole : Lengths → List Piece → Option Fault → Type 0
+abbrev Whole : Lengths → List Piece → Option StreamFault → Type 0
 Whole l pieces None = ⊤
 Whole l pieces (Some fault) = Goes l.most 0 pieces 0
 
 abbrev Stands : Lengths → Progress → Type 0
 Stands l p = ProgressGoes l p × Whole l p.pieces p.fault
 
-by-own : (p : Progress) (b : Result Brought Fault) → ProgressGoes (own p) p → ((n : ℕ) → IsOpen (own p) n p.stream.joining.stage → BroughtGoes p.stream.joining n b)
+by-own : (p : Progress) (b : Result Brought StreamFault) → ProgressGoes (own p) p → ((n : ℕ) → IsOpen (own p) n p.stream.joining.stage → BroughtGoes p.stream.joining n b)
     → Stands (own p) (advanced_by p b)
 by-own p (Err fault) goes brought = let all = all-own p goes in ((0, refl, all, refl), all)
 by-own p (Ok b) (n, same, goes, opened) brought =
     let more = brought n opened in ((more.0, more.1, goes-on (own p).most 0 p.pieces b.pieces n more.0 goes more.2, more.3), tt)
 
-from-stands : (l : Lengths) (p : Progress) (unit : List ℕ) (fault : Option Fault) → IsPrompt l → Stands l p → Stands l (advanced_from p unit fault)
+from-stands : (l : Lengths) (p : Progress) (unit : List ℕ) (fault : Option StreamFault) → IsPrompt l → Stands l p → Stands l (advanced_from p unit fault)
 from-stands l p unit (Some fault) prompt stands = stands
 from-stands l p unit None prompt (goes, whole) =
     let mine = to-own l p goes in
@@ -252,7 +252,7 @@ fold-stands : (l : Lengths) (p : Progress) (units : List (List ℕ)) → IsPromp
 fold-stands l p [] prompt stands = stands
 fold-stands l p (unit ∷ units) prompt stands = fold-stands l (advanced p unit) units prompt (from-stands l p unit p.fault prompt stands)
 
-ended-goes : (l : Lengths) (p : Progress) (fault end : Option Fault) → ProgressGoes l p → Whole l p.pieces fault → GoOn l.most 0 (ended_by p fault end).pieces
+ended-goes : (l : Lengths) (p : Progress) (fault end : Option StreamFault) → ProgressGoes l p → Whole l p.pieces fault → GoOn l.most 0 (ended_by p fault end).pieces
 ended-goes l p (Some fault) end goes whole = all-go l.most 0 p.pieces whole
 ended-goes l p None end goes whole = all-go l.most 0 (all_pieces p) (all-goes l p goes)
 

@@ -1,4 +1,4 @@
--- The pieces of a stream: its movies, fragment by fragment, where of each fragment of the governing track the next one is known, or each is a part.
+-- The pieces of a stream, movie by movie and fragment by fragment: either the next fragment of each is known, or each is a part.
 use Rattle.std.specs.Prelude.{◌&&◌, ◌||◌, ℕ, ⊤, ◌≡◌, take, drop, ◌+◌, ◌-◌, Bool, true, false, List, [], ◌∷◌, ◌++◌, length, nat_lt, min, ◌^◌, if◌then◌else◌, not, Option, Some, None}
 use Rattle.ll_runs.specs.Times.{duration_to, ends_run, is_counted, joined_to, judged, micros, next_at, place_of, rendition_end, said_to, size_limit, time_of, times_after, times_from}
 use Rattle.ll_parts.specs.Others.{bytes_of, leads, stay}
@@ -6,8 +6,8 @@ use Rattle.ll_parts.specs.Pieces.{ending, part_of}
 use Rattle.ll_parts.specs.Prompt.{Parted, finish, parted, said_between}
 use Rattle.ll_runs.specs.Prompt.{end_of_parts, next_after, times_at}
 use Rattle.ll_mp4.specs.Movies.{MovieValue}
-use Rattle.ll_mp4.specs.declared.fault.Fault.{Fault}
-use Rattle.ll_mp4.specs.declared.fault.Fault.TheVariants.{TooLarge}
+use Rattle.ll_mp4.specs.declared.fault.StreamFault.{StreamFault}
+use Rattle.ll_mp4.specs.declared.fault.StreamFault.TheVariants.{TooLarge}
 use Rattle.ll_runs.specs.Refusals.{is_long, refusal_at, refusal_by, refusal_of}
 use Rattle.ll_runs.specs.declared.lengths.Lengths.{Lengths}
 use Rattle.ll_parts.specs.declared.pieces.Piece.{Piece}
@@ -30,20 +30,20 @@ use Rattle.ll_mp4.specs.declared.timing.Timing.{Timing}
 
 -- ---- what a stream has
 
--- where the rendition ended as the movie began, in microseconds
+-- the lengths, the movie's values, the end of the rendition in microseconds as the movie began, and what isn't published yet
 pub record Joining : Type 0 where
   pub lengths : Lengths
   pub heading : Heading
   pub end : ℕ
   pub stage : Stage
 
--- before any movie, of a rendition that ends there
+-- before any movie, for a rendition that ends at `end`
 abbrev pub at_start : Lengths → ℕ → Joining
 at_start lengths end = record { lengths = lengths; heading = record { section = []; scales = []; scale = 1 }; end = end; stage = Silent [] }
 
--- ---- a fragment of which it is known what comes after it
+-- ---- a fragment whose successor is known
 
--- what ends before it
+-- the part that ends before it, if one does
 abbrev pub said_before : Heading → Times → List ℕ → ℕ → Cut → List Piece
 said_before h t under begin cut.Joins = []
 said_before h t under begin cut.Part = part_of h t under (duration_to t begin) false ∷ []
@@ -55,12 +55,12 @@ with_group cut.Joins under bytes = under ++ bytes
 with_group cut.Part under bytes = bytes
 with_group cut.Segment under bytes = bytes
 
--- what is said where the run ends at this microsecond of it
+-- the pieces after it, if the run ends at this microsecond of it
 abbrev pub said_after : Heading → Times → List ℕ → ℕ → Bool → Next → List Piece
 said_after h t under end false next = []
 said_after h t under end true next = part_of h t under (duration_to t end) true ∷ ending h t next
 
--- the pieces that a fragment brings, and what goes on after it
+-- the pieces that a fragment completes, and what continues after it
 pub record Step : Type 0 where
   pub pieces : List Piece
   pub onward : Onward
@@ -68,7 +68,7 @@ pub record Step : Type 0 where
 abbrev pub onward_after : Times → List ℕ → ℕ → Bool → Next → Onward
 onward_after t under end ends next = record { times = times_after t end ends next; bytes = if ends then [] else under; end = rendition_end t end }
 
--- with the times that the fragment joined, and the bytes of its part
+-- the step of a fragment that was added: `t` are its part's times, and `under` the bytes of its part
 abbrev pub step_joined : Heading → List Piece → Times → List ℕ → ℕ → Bool → Next → Step
 step_joined h before t under end ends next = record {
   pieces = before ++ said_after h t under end ends next;
@@ -85,7 +85,7 @@ step_of lengths h t under group next = step_by h t under group next (judged leng
 
 -- ---- one more element
 
--- a fragment with these others
+-- a fragment with the bytes of these others
 abbrev pub group_of : Held → List Other → Group
 group_of held others = record { bytes = held.bytes ++ bytes_of others; ticks = held.ticks; sync = held.sync }
 
@@ -95,12 +95,12 @@ held_of lead bytes timing = record { bytes = lead ++ bytes; ticks = timing.ticks
 abbrev pub on_stage : Joining → Stage → Joining
 on_stage j stage = record j { stage = stage }
 
--- the pieces that an element brings, and the movie under way then
+-- the pieces that an element completes, and the state after it
 pub record Taken : Type 0 where
   pub pieces : List Piece
   pub after : Joining
 
--- what comes after a fragment, and how many of those that came since go with it
+-- the successor of a fragment, and the number of the elements since that go with it
 abbrev pub parting_by : ℕ → Held → Times → Next → Bool → Parting
 parting_by scale held t next ends = record { next = next; ends = ends; count = stay ends (leads scale t.position (place_of next)) held.since }
 
@@ -113,7 +113,7 @@ parting lengths scale held t time = parting_at lengths scale held t (next_at len
 abbrev pub after_step : Joining → List ℕ → List ℕ → Timing → Step → Taken
 after_step j lead bytes timing step = record { pieces = step.pieces; after = on_stage j (Under (held_of lead bytes timing) step.onward.times step.onward.bytes) }
 
--- the next fragment begins there
+-- the pieces that the next fragment completes, and the state after it
 abbrev pub followed : Joining → Held → Times → List ℕ → List ℕ → Timing → Parting → Taken
 followed j held t under bytes timing p =
     after_step j (bytes_of (drop p.count held.since)) bytes timing (step_of j.lengths j.heading t under (group_of held (take p.count held.since)) p.next)
@@ -122,11 +122,11 @@ abbrev pub first_time : Option ℕ → ℕ
 first_time None = 0
 first_time (Some time) = time
 
--- where a movie's first fragment begins a run
+-- the times of the run that a movie's first fragment begins
 abbrev pub first_times : Joining → Timing → Times
 first_times j timing = times_from (first_time timing.time) j.end (first_time timing.time)
 
--- a fragment that is a part, after what is said before it
+-- a fragment that is a part, after the pieces before it
 abbrev pub with_part : Joining → List Piece → Parted → Taken
 with_part j before parted = record { pieces = before ++ parted.piece ∷ []; after = on_stage j (Prompt [] parted.times) }
 
@@ -140,14 +140,14 @@ heard j (Silent lead) bytes timing =
 heard j (Under held t under) bytes timing = followed j held t under bytes timing (parting j.lengths j.heading.scale held t timing.time)
 heard j (Prompt lead t) bytes timing = with_part_at j t (lead ++ bytes) timing (next_after j.lengths j.heading.scale t timing.time)
 
--- why a fragment is refused after the one that is held
-abbrev pub refusal_after : Lengths → ℕ → Held → ℕ → ℕ → Parting → Option Fault
+-- the fault of a fragment after the one that is held
+abbrev pub refusal_after : Lengths → ℕ → Held → ℕ → ℕ → Parting → Option StreamFault
 refusal_after lengths scale held size ticks p =
     refusal_by (is_long lengths scale p.ends ticks)
     (refusal_of scale (place_of p.next + ticks) (length (bytes_of (drop p.count held.since)) + size))
 
--- a fragment with `size` bytes
-unfoldable pub refusal : Joining → Stage → ℕ → Timing → Option Fault
+-- the fault of a fragment of `size` bytes, or none
+unfoldable pub refusal : Joining → Stage → ℕ → Timing → Option StreamFault
 refusal j (Silent lead) size timing =
     if j.lengths.ahead
     then
@@ -159,14 +159,14 @@ refusal j (Under held t under) size timing =
 refusal j (Prompt lead t) size timing =
     refusal_at j.lengths j.heading.scale (times_at t (next_after j.lengths j.heading.scale t timing.time)) timing.ticks (length lead + size)
 
--- how many bytes go together with what comes next of other tracks
+-- the number of bytes to which the next ones of other tracks are added
 abbrev pub size_of : Stage → ℕ
 size_of (Silent lead) = length lead
 size_of (Under held t under) = length held.bytes + length (bytes_of held.since)
 size_of (Prompt lead t) = length lead
 
--- why `size` bytes without a fragment of the governing track are refused: with those that they go with they are too many
-abbrev pub refusal_beside : Stage → ℕ → Option Fault
+-- the fault of `size` bytes without a fragment of the governing track: they are too many with those that they go with
+abbrev pub refusal_beside : Stage → ℕ → Option StreamFault
 refusal_beside stage size = if nat_lt size_limit (size_of stage + size) then Some TooLarge else None
 
 abbrev pub beside : Stage → Other → Stage
@@ -174,14 +174,14 @@ beside (Silent lead) other = Silent (lead ++ other.bytes)
 beside (Under held t under) other = Under (record held { since = held.since ++ other ∷ [] }) t under
 beside (Prompt lead t) other = Prompt (lead ++ other.bytes) t
 
--- ---- where a movie ends
+-- ---- the end of a movie
 
 abbrev pub over : Joining → Stage → List Piece
 over j (Silent lead) = []
 over j (Under held t under) = (step_of j.lengths j.heading t under (group_of held held.since) Over).pieces
 over j (Prompt lead t) = finish t
 
--- where the rendition ends then
+-- the end of the rendition then
 abbrev pub end_of : Joining → Stage → ℕ
 end_of j (Silent lead) = j.end
 end_of j (Under held t under) = (step_of j.lengths j.heading t under (group_of held held.since) Over).onward.end
@@ -211,7 +211,7 @@ under held t bytes = Under held t bytes
 abbrev pub prompt : List ℕ → Times → Stage
 prompt lead t = Prompt lead t
 
--- where the samples end that came so far can be counted
+-- the tick at which the samples so far end can be counted
 abbrev pub IsCounted : ℕ → Stage → Type 0
 IsCounted scale (Silent lead) = ⊤
 IsCounted scale (Under held t under) = is_counted scale (t.position + held.ticks) ≡ true

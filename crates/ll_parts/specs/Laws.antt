@@ -5,7 +5,7 @@ use Rattle.ll_runs.specs.declared.lengths.Lengths.{Lengths}
 use Rattle.ll_parts.specs.declared.pieces.Piece.{Piece}
 use Rattle.ll_parts.specs.declared.pieces.Piece.TheVariants.{Begin, Init, Media, Finish, Break}
 
--- bytes that came before others
+-- bytes that came before others change nothing of what is to come
 abbrev pub BytesCome : Type 0
 BytesCome = (c : CutterValue) (bytes input : List ℕ) → to_come c (bytes ++ input) ≡ to_come (with_bytes c bytes) input
 
@@ -21,13 +21,13 @@ IsGoing c = c.is_over ≡ false → c.progress.fault ≡ None
 abbrev pub UnitsCome : Type 0
 UnitsCome = (c : CutterValue) (input : List ℕ) → IsGoing c → to_come c input ≡ to_come (advanced_cutter c).1 input
 
--- nor does the end of the input, where no unit was there
+-- nor does the end of the input, if no unit was there
 abbrev pub EndComes : Type 0
 EndComes = (c : CutterValue) (input : List ℕ) → (advanced_cutter c).0 ≡ false → IsGoing c → to_come c [] ≡ to_come (closed (advanced_cutter c).1) input
 
 -- ---- parts
 
--- a part lasts no longer than is said, but for one of a microsecond
+-- a part is no longer than `lengths` say, or than a microsecond
 abbrev pub IsShort : Lengths → Piece → Type 0
 IsShort lengths (Begin section) = ⊤
 IsShort lengths (Init section) = ⊤
@@ -35,13 +35,13 @@ IsShort lengths (Media part) = part.duration ≤ max 1 lengths.part
 IsShort lengths Finish = ⊤
 IsShort lengths (Break since) = ⊤
 
--- no part of a stream lasts longer
+-- every part of a stream is so short
 abbrev pub PartsFit : Type 0
 PartsFit = (lengths : Lengths) (end : ℕ) (input : List ℕ) → All (IsShort lengths) (published lengths end input).pieces
 
 -- ---- segments
 
--- how long the open segment is after a piece, if it was so long before
+-- the duration of the open segment after a piece, if it was n before
 abbrev pub open_after : ℕ → Piece → ℕ
 open_after n (Begin section) = n
 open_after n (Init section) = n
@@ -49,7 +49,8 @@ open_after n (Media part) = if part.finishes then 0 else n + part.duration
 open_after n Finish = 0
 open_after n (Break since) = n
 
--- a segment is no longer than is said, and all else but a part comes after its end
+-- a piece is allowed after n microseconds of an open segment: a part makes it no longer than `most`, a finish
+-- ends an open one, and all else comes after its end
 abbrev pub GoesOn : ℕ → ℕ → Piece → Type 0
 GoesOn most n (Begin section) = n ≡ 0
 GoesOn most n (Init section) = n ≡ 0
@@ -61,7 +62,7 @@ abbrev pub GoOn : ℕ → ℕ → List Piece → Type 0
 GoOn most n [] = n ≡ 0
 GoOn most n (piece ∷ pieces) = GoesOn most n piece × GoOn most (open_after n piece) pieces
 
--- where parts don't wait, each segment of a stream ends, and none is longer than the longest
+-- if parts don't wait, each segment of a stream ends, and none is longer than the longest allowed
 abbrev pub SegmentsFit : Type 0
 SegmentsFit =
     (lengths : Lengths) (end : ℕ) (input : List ℕ) → lengths.ahead ≡ false → lengths.part ≤ lengths.most

@@ -1,3 +1,4 @@
+-- Definitions of the pieces of an encoder's stream.
 pub mod Joined
 pub mod Laws
 pub mod Others

@@ -1,4 +1,4 @@
--- The pieces of a run: its parts, and what stands between it and the next one.
+-- The pieces of a run: its parts, and the break between it and the next one.
 use Rattle.std.specs.Prelude.{ℕ, Bool, List, [], ◌∷◌, Some, None}
 use Rattle.ll_runs.specs.Times.{since_origin}
 use Rattle.ll_parts.specs.declared.heading.Heading.{Heading}
@@ -10,7 +10,7 @@ use Rattle.ll_runs.specs.declared.times.Times.{Times}
 use Rattle.ll_shift.specs.Moved.{moved}
 use Rattle.ll_shift.specs.declared.shift.Shift.{Shift}
 
--- how the times of a run are moved
+-- the move of the times of a run
 abbrev pub shift_of : ℕ → Times → Shift
 shift_of scale t = record { base = t.base; scale = scale; end = t.end }
 
@@ -23,7 +23,7 @@ part_of h t bytes duration finishes = Media (record {
   finishes = finishes;
 })
 
--- after the last part of a run
+-- the pieces after the last part of a run
 abbrev pub ending : Heading → Times → Next → List Piece
 ending h t Over = []
 ending h t (Back tick) = Break None ∷ Init h.section ∷ []

@@ -1,4 +1,4 @@
--- The parts of a stream whose fragments are parts, each published as it comes.
+-- The parts of a stream if each fragment is a part and is published as it comes.
 use Rattle.std.specs.Prelude.{ℕ, Bool, List, [], ◌∷◌, ◌++◌, if◌then◌else◌}
 use Rattle.ll_mp4.specs.declared.timing.Timing.{Timing}
 use Rattle.ll_parts.specs.Pieces.{ending, part_of}
@@ -13,7 +13,7 @@ use Rattle.ll_runs.specs.declared.times.Times.{Times}
 abbrev pub finish : Times → List Piece
 finish t = if is_open t then Finish ∷ [] else []
 
--- what is said before what comes next
+-- the pieces before `next`
 abbrev pub said_between : Heading → Times → Next → List Piece
 said_between h t next = if ends_before t next then finish t ++ ending h t next else []
 
@@ -28,6 +28,6 @@ parted_by lengths h t bytes ticks lasts = record {
   times = times_past t ticks (part_end t lasts) (finishes lengths t lasts);
 }
 
--- in a run of these times
+-- a fragment's part in a run with these times
 abbrev pub parted : Lengths → Heading → Times → List ℕ → Timing → Parted
 parted lengths h t bytes timing = parted_by lengths h (record t { independent = timing.sync }) bytes timing.ticks (part_lasts h.scale t timing.ticks)

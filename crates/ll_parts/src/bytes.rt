@@ -1,4 +1,4 @@
-//! Bytes that contracts see as a list.
+//! Bytes of a stream, which contracts see as a list.
 ghost use Rattle.std.specs.Prelude.{◌≡◌, ◌++◌, [], IfOk, length};
 ghost use Rattle.ll_shift.specs.Moved.{moved};
 
@@ -20,14 +20,14 @@ impl Model for Bytes {
 }
 
 impl Bytes {
-    /// Returns no bytes.
+    /// Makes an empty sequence of bytes.
     pub(crate) fn new(alloc: Global) -> Bytes
         ensures { result ≡ [] }
     {
         Bytes(Vec::new(alloc))
     }
 
-    /// Adds `bytes` at the end.
+    /// Appends `bytes`.
     pub(crate) fn add(&mut self, bytes: &[u8]) -> Result<(), AllocError>
         ensures { IfOk result (λ _. self.new ≡ self.old ++ bytes.now) }
     {
@@ -41,14 +41,15 @@ impl Bytes {
         &self.0
     }
 
-    /// Returns how many they are.
+    /// Returns the number of bytes.
     pub fn len(&self) -> usize
         ensures { result ≡ length self.now }
     {
         self.0.len()
     }
 
-    /// Returns the bytes with their times moved by `shift`; `scales` are those of their movie's tracks.
+    /// Returns the bytes with their times moved by `shift`; `scales` are the time scales of their movie's
+    /// tracks.
     pub(crate) fn moved(
         &self,
         alloc: Global,
@@ -72,7 +73,7 @@ impl Bytes {
         Ok(copy)
     }
 
-    /// Returns these bytes and then those of `later`.
+    /// Returns the bytes followed by those of `later`.
     pub(crate) fn with(mut self, later: Bytes) -> Result<Bytes, AllocError>
         ensures { IfOk result (λ both. both ≡ self ++ later) }
     {

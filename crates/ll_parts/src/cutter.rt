@@ -1,4 +1,4 @@
-//! The bytes of an encoder as they come, cut into what is published of them.
+//! Cuts the bytes of an encoder, as they come, into the pieces in which they are published.
 ghost use Rattle.std.specs.Prelude.{◌≡◌, ◌≢◌, ◌∷◌, ◌++◌, [], ℕ, List, IfErr, IfOk, IsErrOf, MatchOption, MatchResult, None, Ok, Some, false, true};
 ghost use Rattle.ll_mp4.specs.Streams.{end_fault};
 ghost use Rattle.ll_parts.specs.Stream.{advanced_cutter, begun_cutter, closed, or_no_movie, stopped, with_bytes, with_first};
@@ -6,20 +6,20 @@ ghost use Rattle.ll_parts.specs.Stream.{advanced_cutter, begun_cutter, closed, o
 use crate::joiner::Joiner;
 use crate::pieces::{Piece, Pieces};
 use crate::stream::Stream;
-use ll_mp4::{Fault, Splitter};
+use ll_mp4::{Splitter, StreamFault};
 use ll_runs::Lengths;
 use std::alloc::Global;
 use std::marker::Model;
 
-/// An encoder's stream as far as it came, cut into pieces.
+/// An encoder's stream as far as it has come, cut into pieces.
 #[derive(Drop)]
 pub struct Cutter {
     alloc: Global,
     splitter: Splitter,
     stream: Stream,
-    /// What of it is to be published and was not taken.
+    /// The pieces that weren't taken yet.
     pieces: Pieces,
-    fault: Option<Fault>,
+    fault: Option<StreamFault>,
     is_over: bool,
 }
 
@@ -35,7 +35,7 @@ impl Model for Cutter {
 }
 
 impl Cutter {
-    /// Returns one for a rendition that ends at microsecond `end`, to which no bytes came so far.
+    /// Makes a cutter without any bytes for a rendition that ends at microsecond `end`.
     pub fn new(alloc: Global, lengths: Lengths, end: u64) -> Cutter
         ensures { result ≡ begun_cutter lengths end }
     {
@@ -52,32 +52,33 @@ impl Cutter {
         }
     }
 
-    /// Adds `bytes` of the input.
+    /// Appends `bytes`, the next of the input.
     ///
     /// # Errors
     ///
     /// `Memory`, and then nothing changes.
-    pub fn feed(&mut self, bytes: &[u8]) -> Result<(), Fault>
-        ensures { MatchResult result (λ _. self.new ≡ with_bytes self.old bytes.now) (λ fault. (fault ≡ Fault.Memory) × (self.new ≡ self.old)) }
+    pub fn feed(&mut self, bytes: &[u8]) -> Result<(), StreamFault>
+        ensures { MatchResult result (λ _. self.new ≡ with_bytes self.old bytes.now) (λ fault. (fault ≡ StreamFault.Memory) × (self.new ≡ self.old)) }
     {
         self.splitter.feed(bytes)
     }
 
-    /// Takes the first piece that is there.
+    /// Takes the first piece, or returns `None` if none is there.
     pub fn pop(&mut self) -> Option<Piece>
         ensures { MatchOption result ((self.new ≡ self.old) × (self.old.progress.pieces ≡ [])) (λ piece. self.old ≡ with_first piece self.new) }
     {
         self.pieces.pop()
     }
 
-    /// Takes one more unit of the input, or the fault that ends it, and returns whether one was there. What it brings is there then.
+    /// Cuts one more unit of the input, or stops at the fault that ends it, and returns whether one of them was there. `pop` then
+    /// returns its pieces.
     ///
     /// # Errors
     ///
     /// `Memory`.
-    pub fn advance(&mut self) -> Result<bool, Fault>
+    pub fn advance(&mut self) -> Result<bool, StreamFault>
         ensures taken { IfOk result (λ taken. (taken, self.new) ≡ advanced_cutter self.old) }
-        ensures memory { IfErr result (λ fault. fault ≡ Fault.Memory) }
+        ensures memory { IfErr result (λ fault. fault ≡ StreamFault.Memory) }
     {
         if self.is_over {
             return Ok(false);
@@ -89,7 +90,7 @@ impl Cutter {
         };
         match taken {
             Ok(()) => Ok(true),
-            Err(Fault::Memory) => Err(Fault::Memory),
+            Err(StreamFault::Memory) => Err(StreamFault::Memory),
             Err(fault) => {
                 self.stop(Some(fault))?;
                 Ok(true)
@@ -97,14 +98,14 @@ impl Cutter {
         }
     }
 
-    /// Ends the input, of which all units were taken. What is left of it is there then.
+    /// Ends the input, of which all units were cut. `pop` then returns its last pieces.
     ///
     /// # Errors
     ///
     /// `Memory`.
-    pub fn close(&mut self) -> Result<(), Fault>
+    pub fn close(&mut self) -> Result<(), StreamFault>
         ensures closed { IfOk result (λ _. self.new ≡ closed self.old) }
-        ensures memory { IfErr result (λ fault. fault ≡ Fault.Memory) }
+        ensures memory { IfErr result (λ fault. fault ≡ StreamFault.Memory) }
     {
         if self.is_over {
             return Ok(());
@@ -113,7 +114,7 @@ impl Cutter {
         self.stop(fault)
     }
 
-    /// Returns whether nothing more comes but the pieces that are there, since the input has ended or has a fault.
+    /// Returns whether the input has ended or has a fault, so that no more pieces come after those that are there.
     pub fn is_over(&self) -> bool
         ensures { result ≡ self.now.is_over }
     {
@@ -121,28 +122,28 @@ impl Cutter {
     }
 
     /// Returns the fault that ends the input, once it is over.
-    pub fn fault(&self) -> Option<Fault>
+    pub fn fault(&self) -> Option<StreamFault>
         ensures fault { result ≡ self.now.progress.fault }
         ensures over { self.now.is_over ≡ false → result ≡ None }
     {
         self.fault
     }
 
-    /// Returns what is wrong where the input ends now.
-    fn end_fault(&self) -> Option<Fault>
+    /// Returns the fault if the input ends now.
+    fn end_fault(&self) -> Option<StreamFault>
         ensures { result ≡ or_no_movie self.now.progress.stream.movie (end_fault self.now.left) }
     {
         match self.splitter.finish() {
             Err(fault) => Some(fault),
-            Ok(()) if self.stream.movie.is_none() => Some(Fault::NoMoov),
+            Ok(()) if self.stream.movie.is_none() => Some(StreamFault::NoMoov),
             Ok(()) => None,
         }
     }
 
-    /// Ends the stream with this `fault` or none, after what is left of its movie.
-    fn stop(&mut self, fault: Option<Fault>) -> Result<(), Fault>
+    /// Ends the stream with this `fault` or none, after the last pieces of its movie.
+    fn stop(&mut self, fault: Option<StreamFault>) -> Result<(), StreamFault>
         ensures stopped { IfOk result (λ _. self.new ≡ record { left = self.old.left; progress = stopped self.old.progress fault; is_over = true }) }
-        ensures memory { IfErr result (λ fault. fault ≡ Fault.Memory) }
+        ensures memory { IfErr result (λ fault. fault ≡ StreamFault.Memory) }
     {
         self.is_over = true;
         self.fault = fault;

@@ -1,4 +1,4 @@
-//! What is made of a movie's fragments.
+//! Makes the pieces of a movie, fragment by fragment, once the next fragment of each is known.
 ghost use Rattle.std.specs.Prelude.{◌≡◌, ◌≢◌, ◌+◌, ◌++◌, ◌∷◌, IfOk, true};
 ghost use Rattle.ll_parts.specs.Joined as spec;
 ghost use Rattle.ll_parts.specs.Joined.{step_of};
@@ -8,13 +8,13 @@ ghost use Rattle.ll_runs.specs.declared.times.Next.{Next};
 
 use crate::bytes::Bytes;
 use crate::heading::Heading;
-use crate::pieces::{Part, Piece, Pieces};
+use crate::pieces::{MediaPart, Piece, Pieces};
 use crate::stage::{Group, Onward};
 use ll_runs::{Cut, Judged, Lengths, Next, Times, Weight};
 use ll_shift::Shift;
 use std::alloc::{AllocError, Global};
 
-/// What a part's pieces are made with.
+/// The values with which the pieces of a movie are made.
 #[derive(Clone, Copy)]
 pub(crate) struct Frame<'a> {
     pub(crate) alloc: Global,
@@ -23,7 +23,7 @@ pub(crate) struct Frame<'a> {
 }
 
 impl Frame<'_> {
-    /// Returns the part under way, of these bytes.
+    /// Returns the part under way, of the bytes `under`, with their times moved.
     pub(crate) fn part(
         &self,
         times: &Times,
@@ -39,7 +39,7 @@ impl Frame<'_> {
             end: times.end,
         };
         let scales = self.heading.scales.as_slice();
-        Ok(Piece::Media(Part {
+        Ok(Piece::Media(MediaPart {
             bytes: under.moved(self.alloc, &shift, scales)?,
             duration,
             independent: times.independent,
@@ -47,7 +47,7 @@ impl Frame<'_> {
         }))
     }
 
-    /// Adds to `out` what ends before a fragment, and returns the bytes of the part under way with those of the fragment, `more`.
+    /// Appends the part that ends before a fragment, if any, to `out`. Returns the bytes of the part under way with those of the fragment, `more`.
     fn cut_off(
         &self,
         times: &Times,
@@ -68,7 +68,7 @@ impl Frame<'_> {
         Ok(more)
     }
 
-    /// Adds to `out` the part under way, which ends at microsecond `end` of its run as the last of its segment, and what stands before the next run.
+    /// Appends to `out` the part under way, which ends at microsecond `end` of its run and ends its segment, and the pieces before the next run.
     fn end_run(
         &self,
         times: &Times,
@@ -85,7 +85,8 @@ impl Frame<'_> {
         self.end(times, next, out)
     }
 
-    /// Adds to `out` what stands between a run of these `times` and the next one.
+    /// Appends to `out` the pieces between a run with these `times` and the next: none if nothing comes after it, else a break and the initialization
+    /// section.
     pub(crate) fn end(&self, times: &Times, next: Next, out: &mut Pieces) -> Result<(), AllocError>
         requires { is_counted self.now.heading.now.scale (place_of next) ≡ true }
         ensures { IfOk result (λ _. out.new ≡ out.old ++ ending self.now.heading.now times.now next) }
@@ -99,7 +100,8 @@ impl Frame<'_> {
         out.push(Piece::Init(Bytes::of(self.alloc, self.heading.section.as_slice())?))
     }
 
-    /// Adds to `out` what a fragment brings, which begins at the position of `times` and after which `next` comes; `under` are the bytes of the part under way.
+    /// Appends to `out` the pieces that the fragment `group` completes; it begins at the position of `times`, and `next` comes after it. `under` are
+    /// the bytes of the part under way. Returns what continues after it.
     pub(crate) fn step(
         &self,
         times: Times,
@@ -123,7 +125,7 @@ impl Frame<'_> {
         self.step_by(times, under, group, next, judged, out)
     }
 
-    /// Adds to `out` what a fragment brings that is judged so.
+    /// Does the same once it is known how the fragment was `judged`.
     fn step_by(
         &self,
         times: Times,
@@ -144,7 +146,7 @@ impl Frame<'_> {
         self.go_on(times, bytes, next, judged, out)
     }
 
-    /// Adds to `out` what ends with a fragment that has joined, and returns what goes on.
+    /// Appends to `out` the pieces of the run if it ends with a fragment that was added, and returns what continues after it.
     fn go_on(
         &self,
         times: Times,

@@ -1,4 +1,4 @@
-//! What a movie's pieces are made with.
+//! The initialization section and time scales of a movie, with which its pieces are made.
 ghost use Rattle.std.specs.Prelude.{◌≡◌, [], IfOk};
 
 use crate::bytes::Bytes;
@@ -6,14 +6,14 @@ use ll_mp4::TimeScale;
 use std::alloc::{AllocError, Global};
 use std::marker::Model;
 
-/// What a movie's pieces are made with.
+/// The values of a movie with which its pieces are made.
 #[derive(Drop)]
 pub(crate) struct Heading {
     /// The initialization section.
     pub(crate) section: Bytes,
     /// The tracks' time scales.
     pub(crate) scales: Scales,
-    /// How many ticks a second of the governing track has.
+    /// The number of ticks in a second of the governing track.
     pub(crate) scale: u32,
 }
 
@@ -31,7 +31,7 @@ impl Model for Scales {
 }
 
 impl Scales {
-    /// Returns none.
+    /// Makes an empty list.
     pub(crate) fn new(alloc: Global) -> Scales
         ensures { result ≡ [] }
     {

@@ -1,6 +1,6 @@
-//! The pieces of an encoder's stream, as its elements come.
+//! Joins the elements of an encoder's stream into pieces, as they come.
 ghost use Rattle.std.specs.Prelude.{◌≡◌, ◌≢◌, ◌+◌, ◌<◌, ◌≤◌, ◌^◌, ◌++◌, ◌∷◌, [], IfErr, IfOk, None, Some, length, false, true};
-ghost use Rattle.ll_mp4.specs.declared.fault.Fault.TheVariants.{Memory};
+ghost use Rattle.ll_mp4.specs.declared.fault.StreamFault.TheVariants.{Memory};
 ghost use Rattle.ll_parts.specs.Joined as spec;
 ghost use Rattle.ll_parts.specs.Joined.{at_start, begun, heard, over, refusal};
 ghost use Rattle.ll_runs.specs.Times.{is_counted};
@@ -12,7 +12,7 @@ use crate::heading::{Heading, Scales};
 use crate::others::{Other, Others};
 use crate::pieces::{Piece, Pieces};
 use crate::stage::{Held, Parting, Stage};
-use ll_mp4::{Fault, Moment, Movie, Timing};
+use ll_mp4::{Moment, Movie, StreamFault, Timing};
 use ll_runs::{
     Lengths, Next, SIZE_LIMIT, Span, Times, ends_run, next_after, next_at, place_of, refusal_at,
     refusal_of,
@@ -21,14 +21,14 @@ use std::alloc::{AllocError, Global};
 use std::marker::Model;
 use std::mem;
 
-/// A stream as far as it came: what of it isn't published yet, and where its rendition ends.
+/// A stream as far as it has come: what of it isn't published yet, and where its rendition ends.
 #[derive(Drop)]
 pub struct Joiner {
     alloc: Global,
     lengths: Lengths,
-    /// What the pieces of the movie that came last are made with.
+    /// The values of the last movie with which its pieces are made.
     heading: Heading,
-    /// Where the rendition ended as the movie began, in microseconds.
+    /// The end of the rendition as the movie began, in microseconds.
     end: u64,
     stage: Stage,
 }
@@ -44,7 +44,7 @@ impl Model for Joiner {
 }
 
 impl Joiner {
-    /// Returns one for a rendition that ends at microsecond `end`, before any movie.
+    /// Makes a joiner for a rendition that ends at microsecond `end`, before any movie.
     pub fn new(alloc: Global, lengths: Lengths, end: u64) -> Joiner
         ensures { result ≡ at_start lengths end }
     {
@@ -63,7 +63,7 @@ impl Joiner {
 }
 
 impl Joiner {
-    /// Takes `movie` with its initialization section. Adds to `out` what is left of the movie before it, and what begins it.
+    /// Begins `movie`, whose initialization section is `section`. Appends the last pieces of the movie before it, and then its own first, to `out`.
     pub fn begin(
         &mut self,
         section: &[u8],
@@ -82,7 +82,7 @@ impl Joiner {
         Ok(())
     }
 
-    /// Adds to `out` what is left of the movie: nothing comes after it.
+    /// Ends the movie, and appends its last pieces to `out`.
     pub fn finish(&mut self, out: &mut Pieces) -> Result<(), AllocError>
         ensures pieces { IfOk result (λ _. out.new ≡ out.old ++ over self.old self.old.stage) }
         ensures after { IfOk result (λ _. self.new ≡ spec.finished self.old) }
@@ -101,7 +101,8 @@ impl Joiner {
         }
     }
 
-    /// Adds to `out` what the fragment that is `held` brings as the movie's last, in a run of these `times`; `under` are the bytes of the part under way.
+    /// Appends to `out` the pieces that `held` completes as its movie's last fragment; `times` are those of its run, `under` the bytes of the part
+    /// under way.
     fn finish_part(
         &mut self,
         held: Held,
@@ -120,13 +121,19 @@ impl Joiner {
         Ok(())
     }
 
-    /// Takes a fragment of the governing track, with this `timing`. Adds to `out` what of the movie is known by it.
+    /// Adds a fragment of the governing track with this `timing`, and appends the pieces that it completes to `out`.
     ///
     /// # Errors
     ///
-    /// `TooLong` if it ends past what can be counted, or is longer than a part may be and begins a run or is a part itself, `TooLarge` if it has more than 1,048,576 bytes with those that go with it, and then nothing changes; or `Memory`.
+    /// `TooLong` if it ends past what can be counted, or is longer than a part is allowed to be and begins a run or is a part itself; `TooLarge` if
+    /// it has more than 1,048,576 bytes with those that go with it. Then nothing changes. Or `Memory`.
     #[tactic(auto, unfolding(crate::specs::Joined::refusal))]
-    pub fn hear(&mut self, bytes: &[u8], timing: Timing, out: &mut Pieces) -> Result<(), Fault>
+    pub fn hear(
+        &mut self,
+        bytes: &[u8],
+        timing: Timing,
+        out: &mut Pieces,
+    ) -> Result<(), StreamFault>
         ensures taken { IfOk result (λ _. (out.new ≡ out.old ++ (heard self.old self.old.stage bytes.now timing).pieces) × (self.new ≡ (heard self.old self.old.stage bytes.now timing).after)) }
         ensures accepted { IfOk result (λ _. refusal self.old self.old.stage (length bytes.now) timing ≡ None) }
         ensures refused { IfErr result (λ fault. fault ≢ Memory → (refusal self.old self.old.stage (length bytes.now) timing ≡ Some fault) × (self.new ≡ self.old) × (out.new ≡ out.old)) }
@@ -146,18 +153,18 @@ impl Joiner {
         }
     }
 
-    /// Takes bytes without a fragment of the governing track, of which `moment` is the first decode time of another track's.
+    /// Adds bytes without a fragment of the governing track, of which `moment` is the first decode time of another track's.
     ///
     /// # Errors
     ///
-    /// `TooLarge` if those that go with a fragment have more than 1,048,576 bytes with them, and then nothing changes; or `Memory`.
-    pub fn join(&mut self, bytes: &[u8], moment: Option<Moment>) -> Result<(), Fault>
+    /// `TooLarge` if the bytes that go with a fragment are more than 1,048,576 with them, and then nothing changes; or `Memory`.
+    pub fn join(&mut self, bytes: &[u8], moment: Option<Moment>) -> Result<(), StreamFault>
         ensures taken { IfOk result (λ _. self.new ≡ spec.on_stage self.old (spec.beside self.old.stage (record { bytes = bytes.now; moment = moment }))) }
         ensures accepted { IfOk result (λ _. spec.refusal_beside self.old.stage (length bytes.now) ≡ None) }
         ensures refused { IfErr result (λ fault. fault ≢ Memory → (spec.refusal_beside self.old.stage (length bytes.now) ≡ Some fault) × (self.new ≡ self.old)) }
     {
         if self.stage.size() + bytes.len() as u128 > SIZE_LIMIT as u128 {
-            return Err(Fault::TooLarge);
+            return Err(StreamFault::TooLarge);
         }
         let bytes = Bytes::of(self.alloc, bytes)?;
         match &mut self.stage {
@@ -168,7 +175,7 @@ impl Joiner {
         Ok(())
     }
 
-    /// Takes the stage out, and leaves an empty one.
+    /// Takes the stage, and leaves an empty one.
     fn leave(&mut self) -> Stage
         ensures stage { result ≡ self.old.stage }
         ensures counted { spec.IsCounted self.old.heading.scale result }
@@ -178,7 +185,7 @@ impl Joiner {
         mem::replace(&mut self.stage, empty)
     }
 
-    /// Returns what the pieces of its movie are made with.
+    /// Returns the values with which the movie's pieces are made.
     fn frame(&self) -> Frame<'_>
         ensures lengths { result.lengths.now ≡ self.now.lengths }
         ensures heading { result.heading.now ≡ self.now.heading }
@@ -190,9 +197,9 @@ impl Joiner {
         }
     }
 
-    /// Takes the first fragment of the governing track, before which these bytes of its movie stand; a part waits for the fragment after it.
+    /// Adds the first fragment of the governing track, if a part waits for the fragment after it; `lead` are the bytes of its movie before it.
     #[tactic(auto, unfolding(crate::specs::Joined::refusal))]
-    fn hear_first(&mut self, lead: Bytes, bytes: &[u8], timing: Timing) -> Result<(), Fault>
+    fn hear_first(&mut self, lead: Bytes, bytes: &[u8], timing: Timing) -> Result<(), StreamFault>
         requires stage { self.old.stage ≡ spec.empty_stage }
         requires ahead { self.old.lengths.ahead ≡ true }
         ensures taken { IfOk result (λ _. self.new ≡ (heard self.old (spec.silent lead) bytes.now timing).after) }
@@ -219,7 +226,7 @@ impl Joiner {
         Ok(())
     }
 
-    /// Takes a further fragment, after the one that is `held`, in a run of these `times`; `under` are the bytes of the part under way.
+    /// Adds a further fragment, after `held`, in a run with these `times`; `under` are the bytes of the part under way.
     #[tactic(auto, using(ll_runs::proofs::TimeLemmas::counted_less), unfolding(crate::specs::Joined::refusal))]
     fn hear_next(
         &mut self,
@@ -229,7 +236,7 @@ impl Joiner {
         bytes: &[u8],
         timing: Timing,
         out: &mut Pieces,
-    ) -> Result<(), Fault>
+    ) -> Result<(), StreamFault>
         requires { is_counted self.old.heading.scale (times.position + held.ticks) ≡ true }
         ensures taken { IfOk result (λ _. (out.new ≡ out.old ++ (heard self.old (spec.under held times under) bytes.now timing).pieces) × (self.new ≡ (heard self.old (spec.under held times under) bytes.now timing).after)) }
         ensures accepted { IfOk result (λ _. refusal self.old (spec.under held times under) (length bytes.now) timing ≡ None) }
@@ -263,7 +270,7 @@ impl Joiner {
         Ok(())
     }
 
-    /// Takes the first fragment if it is a part, before which these bytes of its movie stand.
+    /// Adds the first fragment, if each fragment is a part; `lead` are the bytes of its movie before it.
     #[tactic(auto, unfolding(crate::specs::Joined::refusal))]
     fn hear_first_part(
         &mut self,
@@ -271,7 +278,7 @@ impl Joiner {
         bytes: &[u8],
         timing: Timing,
         out: &mut Pieces,
-    ) -> Result<(), Fault>
+    ) -> Result<(), StreamFault>
         requires { self.old.lengths.ahead ≡ false }
         ensures taken { IfOk result (λ _. (out.new ≡ out.old ++ (heard self.old (spec.silent lead) bytes.now timing).pieces) × (self.new ≡ (heard self.old (spec.silent lead) bytes.now timing).after)) }
         ensures accepted { IfOk result (λ _. refusal self.old (spec.silent lead) (length bytes.now) timing ≡ None) }
@@ -296,7 +303,7 @@ impl Joiner {
         Ok(())
     }
 
-    /// Takes a further fragment if it is a part, before which these bytes stand, in a run of these `times`.
+    /// Adds a further fragment, if each fragment is a part, in a run with these `times`; `lead` are the bytes since the one before.
     #[tactic(auto, using(ll_runs::proofs::TimeLemmas::counted_place), unfolding(crate::specs::Joined::refusal))]
     fn hear_part(
         &mut self,
@@ -305,7 +312,7 @@ impl Joiner {
         bytes: &[u8],
         timing: Timing,
         out: &mut Pieces,
-    ) -> Result<(), Fault>
+    ) -> Result<(), StreamFault>
         requires { is_counted self.old.heading.scale times.position ≡ true }
         ensures taken { IfOk result (λ _. (out.new ≡ out.old ++ (heard self.old (spec.prompt lead times) bytes.now timing).pieces) × (self.new ≡ (heard self.old (spec.prompt lead times) bytes.now timing).after)) }
         ensures accepted { IfOk result (λ _. refusal self.old (spec.prompt lead times) (length bytes.now) timing ≡ None) }
@@ -332,7 +339,7 @@ impl Joiner {
     }
 }
 
-/// Returns what comes after the fragment that is held if the next one begins at `time`, and how many of those that came since go with it.
+/// Returns the successor of `held` if the next fragment has the decode time `time`, and the number of the elements since that go with `held`.
 fn parting(lengths: &Lengths, scale: u32, held: &Held, times: &Times, time: Option<u64>) -> Parting
     requires { is_counted scale (times.now.position + held.now.ticks) ≡ true }
     ensures parting { result ≡ spec.parting lengths.now scale held.now times.now time }

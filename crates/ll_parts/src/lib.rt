@@ -1,4 +1,5 @@
-//! The parts and segments of an encoder's stream: which fragments of fragmented MP4 (ISO/IEC 14496-12) go into one part, how long it lasts, and where a segment ends.
+//! The parts and segments of an encoder's stream: which fragments of fragmented MP4 (ISO/IEC 14496-12) go into one part, how long it lasts, and where
+//! a segment ends.
 #![tactic(auto)]
 
 mod bytes;
@@ -18,4 +19,4 @@ pub use cutter::Cutter;
 pub use joiner::Joiner;
 pub use laws::cutter_law;
 pub use ll_runs::{Lengths, SIZE_LIMIT};
-pub use pieces::{Part, Piece, Pieces};
+pub use pieces::{MediaPart, Piece, Pieces};

@@ -1,4 +1,4 @@
-//! What stands between two fragments of the governing track.
+//! The bytes between two fragments of the governing track, and to which of the two they belong.
 ghost use Rattle.std.specs.Prelude.{◌≡◌, ◌+◌, ◌<◌, ◌≤◌, ◌^◌, ◌++◌, ◌∷◌, [], IfOk, IfSome, drop, length, position, take};
 ghost use Rattle.ll_parts.specs.Others.{bytes_of, leads};
 ghost use Rattle.ll_parts.specs.Others as spec;
@@ -18,11 +18,11 @@ pub(crate) struct Other {
     pub(crate) moment: Option<Moment>,
 }
 
-/// Those between two fragments of the governing track.
+/// The bytes between two fragments of the governing track, in the order in which they came.
 #[derive(Drop)]
 pub(crate) struct Others {
     items: Vec<Other>,
-    /// How many bytes all have.
+    /// The number of bytes of all of them.
     size: u64,
 }
 
@@ -39,7 +39,7 @@ impl Model for Others {
 }
 
 impl Others {
-    /// Returns none.
+    /// Makes an empty list.
     pub(crate) fn new(alloc: Global) -> Others
         ensures { result ≡ [] }
     {
@@ -49,7 +49,7 @@ impl Others {
         }
     }
 
-    /// Adds `other` at the end; together they have few bytes.
+    /// Adds `other` at the end; all together must be below 2^64 bytes.
     #[tactic(auto, using(crate::proofs::OtherLemmas::one_more))]
     pub(crate) fn push(&mut self, other: Other) -> Result<(), AllocError>
         requires { length (bytes_of self.old) + length other.bytes < 2 ^ 64 }
@@ -57,12 +57,13 @@ impl Others {
     {
         let size = self.size + other.bytes.len() as u64;
         self.items.reserve(1)?;
+        // There is room for it, so this can't fail.
         let _ = self.items.push(other);
         self.size = size;
         Ok(())
     }
 
-    /// Returns how many bytes they have.
+    /// Returns the number of bytes of all of them.
     pub(crate) fn size(&self) -> u64
         ensures { result ≡ length (bytes_of self.now) }
     {
@@ -71,14 +72,15 @@ impl Others {
 }
 
 impl Others {
-    /// Returns how many there are.
+    /// Returns the number of elements.
     pub(crate) fn len(&self) -> usize
         ensures { result ≡ length self.now }
     {
         self.items.len()
     }
 
-    /// Returns how many go with the first of two fragments: all, unless the run `ends` between them. Then those that are nearer to the second go with it, from the first of these on.
+    /// Returns the number of elements that go with the first of two fragments: all, unless the run `ends` between them; then those before the first
+    /// element that is nearer to the second fragment.
     pub(crate) fn stay(&self, ends: bool, span: Span) -> usize
         ensures count { result ≡ spec.stay ends (leads span.scale span.first span.second) self.now }
         ensures most { result ≤ length self.now }
@@ -89,7 +91,7 @@ impl Others {
         self.first_nearer(&span).unwrap_or(self.items.len())
     }
 
-    /// Returns the place of the first that is nearer to the second tick of `span`.
+    /// Returns the index of the first element that is nearer to the second tick of `span`.
     fn first_nearer(&self, span: &Span) -> Option<usize>
         ensures place { result ≡ position (leads span.now.scale span.now.first span.now.second) self.now }
         ensures within { IfSome result (λ place. place ≤ length self.now) }
@@ -99,7 +101,7 @@ impl Others {
             .position(|other| span.is_nearer(other.moment))
     }
 
-    /// Adds the bytes of the first `count` to `bytes`.
+    /// Appends the bytes of the first `count` elements to `bytes`.
     pub(crate) fn add_first(&self, count: usize, bytes: &mut Bytes) -> Result<(), AllocError>
         requires { count ≤ length self.now }
         ensures { IfOk result (λ _. bytes.new ≡ bytes.old ++ bytes_of (take count self.now)) }
@@ -107,7 +109,7 @@ impl Others {
         add_bytes(&self.items[..count], bytes)
     }
 
-    /// Returns the bytes of all but the first `count`.
+    /// Returns the bytes of all but the first `count` elements.
     pub(crate) fn later(&self, alloc: Global, count: usize) -> Result<Bytes, AllocError>
         requires { count ≤ length self.now }
         ensures { IfOk result (λ bytes. bytes ≡ bytes_of (drop count self.now)) }
@@ -118,7 +120,7 @@ impl Others {
     }
 }
 
-/// Adds the bytes of all `others` to `bytes`.
+/// Appends the bytes of all `others` to `bytes`.
 fn add_bytes(others: &[Other], bytes: &mut Bytes) -> Result<(), AllocError>
     ensures { IfOk result (λ _. bytes.new ≡ bytes.old ++ bytes_of others.now) }
 {

@@ -1,4 +1,4 @@
-//! What is published of an encoder's stream.
+//! The pieces in which an encoder's stream is published, and a queue of them.
 ghost use Rattle.std.specs.Prelude.{◌≡◌, ◌++◌, ◌∷◌, [], IfOk, MatchOption};
 
 use crate::bytes::Bytes;
@@ -6,28 +6,28 @@ use std::alloc::{AllocError, Global};
 use std::collections::VecDeque;
 use std::marker::Model;
 
-/// What is published of an encoder's stream.
+/// A piece of an encoder's stream, as it is published.
 #[derive(Drop)]
 pub enum Piece {
-    /// A movie begins, with this initialization section.
+    /// The beginning of a movie, with its initialization section.
     Begin(Bytes),
     /// The initialization section of the movie, again.
     Init(Bytes),
     /// A part.
-    Media(Part),
-    /// The open segment ends with the part before.
+    Media(MediaPart),
+    /// The end of the open segment, with the part before.
     Finish,
-    /// A break: by how many microseconds, rounded up, the program's time is later than that at which its movie began, or at which times went back last; `None` if times go back
-    /// now.
+    /// A break, with the microseconds, rounded up, from the fragment with which the movie began, or with which times last went back, to the next
+    /// fragment; `None` if times go back now.
     Break(Option<u64>),
 }
 
 /// A part.
 #[derive(Drop)]
-pub struct Part {
-    /// Its fragments and what goes with them, with their times moved.
+pub struct MediaPart {
+    /// Its fragments and the bytes that go with them, with their times moved.
     pub bytes: Bytes,
-    /// How long it is, in microseconds.
+    /// Its duration, in microseconds.
     pub duration: u64,
     /// Whether it begins with a sync sample of the governing track.
     pub independent: bool,
@@ -35,7 +35,7 @@ pub struct Part {
     pub finishes: bool,
 }
 
-/// Pieces that are to be published, the first at the front.
+/// The pieces to be published, the first at the front.
 #[derive(Drop)]
 pub struct Pieces(VecDeque<Piece>);
 
@@ -49,14 +49,14 @@ impl Model for Pieces {
 }
 
 impl Pieces {
-    /// Returns none.
+    /// Makes an empty queue.
     pub fn new(alloc: Global) -> Pieces
         ensures { result ≡ [] }
     {
         Pieces(VecDeque::new(alloc))
     }
 
-    /// Adds `piece` as the last.
+    /// Adds `piece` at the end.
     pub(crate) fn push(&mut self, piece: Piece) -> Result<(), AllocError>
         ensures { IfOk result (λ _. self.new ≡ self.old ++ piece ∷ []) }
     {
@@ -66,7 +66,7 @@ impl Pieces {
         }
     }
 
-    /// Takes the first piece away, and returns it.
+    /// Takes the first piece, or returns `None` if there is none.
     pub fn pop(&mut self) -> Option<Piece>
         ensures { MatchOption result ((self.old ≡ []) × (self.new ≡ [])) (λ piece. self.old ≡ piece ∷ self.new) }
     {

@@ -1,4 +1,4 @@
-//! The parts of a stream whose fragments are parts, each published as it comes.
+//! Makes the parts of a stream if each fragment is a part and is published as it comes.
 ghost use Rattle.std.specs.Prelude.{◌≡◌, ◌+◌, ◌<◌, ◌^◌, ◌++◌, ◌∷◌, [], IfOk, true};
 ghost use Rattle.ll_parts.specs.Prompt as spec;
 ghost use Rattle.ll_parts.specs.Prompt.{parted};
@@ -13,7 +13,7 @@ use ll_runs::{Next, Times};
 use std::alloc::AllocError;
 
 impl Frame<'_> {
-    /// Adds to `out` that the open segment ends, if one is open.
+    /// Appends a finish to `out` if a segment is open.
     pub(crate) fn finish(&self, times: &Times, out: &mut Pieces) -> Result<(), AllocError>
         ensures { IfOk result (λ _. out.new ≡ out.old ++ spec.finish times.now) }
     {
@@ -23,7 +23,8 @@ impl Frame<'_> {
         Ok(())
     }
 
-    /// Adds to `out` what is said before what comes next.
+    /// Appends to `out` the pieces before `next`: if the run ends, a finish if a segment is open, a break and
+    /// the initialization section.
     pub(crate) fn end_before(
         &self,
         times: &Times,
@@ -41,7 +42,8 @@ impl Frame<'_> {
         Ok(())
     }
 
-    /// Adds to `out` a fragment's part in a run of these `times`, of these `bytes`, and returns the times after it.
+    /// Appends a fragment's part of these `bytes`, in a run with these `times`, to `out`, and returns the times
+    /// after it.
     #[tactic(auto, using(ll_runs::proofs::TimeLemmas::counted_few))]
     pub(crate) fn add_part(
         &self,

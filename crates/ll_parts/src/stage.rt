@@ -1,4 +1,4 @@
-//! What is held of a movie that isn't published yet.
+//! The state of a movie: what of it isn't published yet.
 ghost use Rattle.std.specs.Prelude.{◌≡◌, ◌<◌, ◌≤◌, ◌^◌, IfOk, length, take};
 ghost use Rattle.ll_parts.specs.Joined.{group_of, held_of, size_of};
 
@@ -8,19 +8,19 @@ use ll_mp4::Timing;
 use ll_runs::{Next, Times};
 use std::alloc::{AllocError, Global};
 
-/// What came of a movie so far.
+/// The state of a movie: what of it isn't published yet.
 #[derive(Drop)]
 pub(crate) enum Stage {
-    /// No fragment of the governing track: these bytes go with the first.
+    /// No fragment of the governing track came yet: these bytes go with the first.
     Silent(Bytes),
     /// The last fragment of the governing track, the times of its run, and the bytes of the part under way.
     Under(Held, Times, Bytes),
-    /// What came after the last fragment of the governing track, which was a part itself, and the times of its run.
+    /// The bytes after the last fragment of the governing track, which was a part itself, and the times of its run.
     Prompt(Bytes, Times),
 }
 
 impl Stage {
-    /// Returns how many bytes go together with what comes next of other tracks.
+    /// Returns the number of bytes to which the next ones of other tracks are added.
     pub(crate) fn size(&self) -> u128
         ensures size { result ≡ size_of self.now }
         ensures few { result < 2 ^ 66 }
@@ -32,16 +32,16 @@ impl Stage {
     }
 }
 
-/// A fragment of the governing track of which it isn't known yet what comes after it.
+/// A fragment of the governing track whose successor isn't known yet.
 #[derive(Drop)]
 pub(crate) struct Held {
-    /// Its bytes, with what stands before it.
+    /// Its bytes, preceded by those before it that go with it.
     pub(crate) bytes: Bytes,
-    /// How long its samples last, in ticks.
+    /// The duration of its samples, in ticks.
     pub(crate) ticks: u64,
     /// Whether it begins with a sync sample.
     pub(crate) sync: bool,
-    /// What came after it.
+    /// The bytes that came after it.
     pub(crate) since: Others,
 }
 
@@ -49,24 +49,24 @@ pub(crate) struct Held {
 #[derive(Drop)]
 pub(crate) struct Group {
     pub(crate) bytes: Bytes,
-    /// How long its samples last, in ticks.
+    /// The duration of its samples, in ticks.
     pub(crate) ticks: u64,
     /// Whether it begins with a sync sample.
     pub(crate) sync: bool,
 }
 
-/// What goes on after a fragment.
+/// What continues after a fragment.
 #[derive(Drop)]
 pub(crate) struct Onward {
     /// The times of the run of the next fragment.
     pub(crate) times: Times,
     /// The bytes of the part under way.
     pub(crate) bytes: Bytes,
-    /// Where the rendition ends if the part under way ends with the fragment, in microseconds.
+    /// The end of the rendition if the part under way ends with the fragment, in microseconds.
     pub(crate) end: u64,
 }
 
-/// What comes after a fragment, whether its run ends with it, and how many of those that came since go with it.
+/// The successor of a fragment, whether its run ends with it, and the number of the elements since that go with it.
 #[derive(Clone, Copy)]
 pub(crate) struct Parting {
     pub(crate) next: Next,
@@ -76,7 +76,7 @@ pub(crate) struct Parting {
 }
 
 impl Held {
-    /// Returns the fragment with these `bytes` and this `timing`, before which `lead` stands.
+    /// Makes the fragment of `bytes` with this `timing`; `lead` are the bytes before it that go with it.
     pub(crate) fn of(
         alloc: Global,
         mut lead: Bytes,
@@ -94,7 +94,7 @@ impl Held {
         })
     }
 
-    /// Returns the fragment with the first `count` of those that came since.
+    /// Returns the fragment with the first `count` elements that came since.
     pub(crate) fn group(self, count: usize) -> Result<Group, AllocError>
         requires { count ≤ length self.since }
         ensures { IfOk result (λ group. group ≡ group_of self (take count self.since)) }

@@ -1,15 +1,15 @@
-//! What came of a stream, unit by unit.
+//! A stream, unit by unit: the last movie, and the pieces that each unit completes.
 ghost use Rattle.std.specs.Prelude.{◌≡◌, MatchResult, IfOk, ◌++◌};
 ghost use Rattle.ll_parts.specs.Joined.{finished, over};
 ghost use Rattle.ll_parts.specs.Stream.{Brings, IsRefused};
 
 use crate::joiner::Joiner;
 use crate::pieces::Pieces;
-use ll_mp4::{Element, Fault, Movie, read_element};
+use ll_mp4::{Element, Movie, StreamFault, read_element};
 use std::alloc::{AllocError, Global};
 use std::marker::Model;
 
-/// The movie of a stream that came last, and what is joined of it.
+/// The last movie of a stream, and what is joined of it.
 #[derive(Drop)]
 pub(crate) struct Stream {
     pub(crate) movie: Option<Movie>,
@@ -25,7 +25,7 @@ impl Model for Stream {
 }
 
 impl Stream {
-    /// Takes `unit`, and adds to `out` what it brings.
+    /// Adds `unit`, and appends the pieces that it completes to `out`.
     ///
     /// # Errors
     ///
@@ -35,7 +35,7 @@ impl Stream {
         alloc: Global,
         unit: &[u8],
         out: &mut Pieces,
-    ) -> Result<(), Fault>
+    ) -> Result<(), StreamFault>
         ensures { MatchResult result (λ _. Brings self.old unit.now out.old self.new out.new) (IsRefused self.old unit.now out.old self.new out.new) }
     {
         match read_element(alloc, self.movie.as_ref(), unit)? {
@@ -49,7 +49,7 @@ impl Stream {
         }
     }
 
-    /// Adds to `out` what is left of the movie.
+    /// Appends to `out` the last pieces of the movie.
     pub(crate) fn finish(&mut self, out: &mut Pieces) -> Result<(), AllocError>
         ensures pieces { IfOk result (λ _. out.new ≡ out.old ++ over self.old.joining self.old.joining.stage) }
         ensures after { IfOk result (λ _. self.new ≡ record self.old { joining = finished self.old.joining }) }

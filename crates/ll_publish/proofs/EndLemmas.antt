@@ -82,7 +82,7 @@ after-more bytes more e =
     let w = place-within bytes e in
     ap (λ n. drop (n + 1) (bytes ++ more)) (place-more bytes more e) ∙ drop-append-le (place bytes + 1) bytes more (omega (arith, w))
 
--- what stands after so many bytes of which the first ones are these
+-- what follows the first bytes of two lists, more of them than the first list has
 pub drop-past : (bytes more : List ℕ) (n : ℕ) → drop (length bytes + n) (bytes ++ more) ≡ drop n more
 drop-past bytes more n = sym (drop-drop n (length bytes) (bytes ++ more)) ∙ ap (drop n) (drop_at bytes more (length bytes) refl)
 

@@ -1,4 +1,4 @@
--- Whatever comes and whatever is called, the lines that were given and those that are to come are those of all bytes.
+-- Whatever comes and whatever is called, the lines that were returned and those that are to come are those of all bytes.
 use Rattle.std.proofs.Common.{◌≡◌, ℕ, zero, suc, ◌+◌, ◌<◌, ◌≤◌, ◌==◌, List, [], ◌∷◌, ◌++◌, Bool, true, false, Option, Some, None, refl, ap, ap₂, sym, subst, ◌∙◌, length, nat_lt, slice_index, append_assoc, length-append, length-drop, arith, fold}
 use borrow.Author.Tests.{ltb-false, ltb-true, lt-ltb, le-ltb}
 use Rattle.std.proofs.lemmas.List.{take-append-le, drop-append-le, get_or_append_left}
@@ -12,7 +12,7 @@ use Rattle.ll_publish.specs.Past.{Call, Take, Next, Past, and_line, before_any, 
 use Rattle.ll_publish.proofs.EndLemmas.{after-more, after-none, before-more, before-none, end-more, end-none}
 use Rattle.ll_publish.proofs.FrontLemmas as front
 
--- ---- a line that is told takes a byte at least
+-- ---- a line that is returned takes at least one byte
 
 media-few : (n : ℕ) (channel item rest : List ℕ) → length (with_media n channel item rest).1.unread ≤ length rest
 media-few n channel item rest = by_end (slice_index rest n == 10) refl
@@ -117,7 +117,7 @@ one-more f = enough (length f.unread) (suc (length f.unread)) f (omega arith) (o
         let s = shrinks f l e in
         ap (then_more (front f).0) (enough (length f.unread) (length (front f).1.unread) (front f).1 (omega (arith, s)) (omega arith))
 
--- what is passed over tells nothing
+-- bytes that are passed over give no line
 same-settled : (f g : FeedValue) → settled f ≡ settled g → lines_in f ≡ lines_in g
 same-settled f g e =
     one-more f ∙ ap (λ s. then_more (front_at s.passing s.unread).0 (lines_in (front_at s.passing s.unread).1)) e ∙ sym (one-more g)
@@ -137,7 +137,7 @@ later_of r = then_more r.0 (lines_in r.1)
 of-more : (bytes : List ℕ) → lines_in (at_line bytes) ≡ later_of (front_of bytes)
 of-more bytes = one-more (at_line bytes)
 
--- a line that has ended with its bytes is told whatever follows them
+-- a line that has ended with its bytes is returned whatever follows them
 media-goes : (n : ℕ) (channel item rest more : List ℕ) → n < length rest
     → later_of (with_media n channel item (rest ++ more)) ≡ given_then more (with_media n channel item rest)
 media-goes n channel item rest more h = by_end (slice_index rest n == 10) refl
@@ -195,11 +195,11 @@ ended-goes line rest bytes more is = by_long (nat_lt line_limit (length line)) r
         parts-goes (parts line) rest bytes more (is ∙ front.ended-short line (rest ++ more) (bytes ++ more) h)
         ∙ sym (ap (given_then more) (front.ended-short line rest bytes h))
 
--- no bytes are before its end is looked for
+-- if no bytes are left before a line's end is searched for, its rest is passed over
 passes : (bytes : List ℕ) → settled (in_passing 0 bytes) ≡ past_end bytes
 passes bytes = rw (le-ltb (length bytes) 0 (omega arith)) refl
 
--- a line that is too long is told before its end, and the rest of it tells nothing
+-- a line that is too long is returned before its end, and the rest of it gives no line
 long-goes : (bytes more : List ℕ) → has_end bytes ≡ false → nat_lt line_limit (length (strip_carriage_return bytes)) ≡ true
     → lines_in (at_line (bytes ++ more)) ≡ TooLong ∷ lines_in (in_passing 0 more)
 long-goes bytes more h k = of-more (bytes ++ more) ∙ by_end (has_end more) refl
@@ -265,9 +265,9 @@ all-stand p (c ∷ calls) s = all-stand (called p c) calls (called-stands p c s)
 pub whole_streams : WholeStreams
 whole_streams calls more = all-stand before_any calls (λ m. refl) more
 
--- ---- where none is given
+-- ---- if no line is returned
 
--- what a feed keeps where it gives no line
+-- what a feed keeps if it returns no line
 pub data Kept (f : FeedValue) (bytes : List ℕ) : Type 0 where
   Passing : (n : ℕ) → f ≡ in_passing n [] → Kept f bytes
   Open : f ≡ at_line bytes → (front_of bytes).0 ≡ None → Kept f bytes
@@ -279,7 +279,7 @@ media-told n channel item rest none = by_lf (slice_index rest n == 10) refl
     by_lf true k = let is = sym none ∙ ap (λ r. r.0) (front.media-good n channel item rest k) in absurd (cc)
     by_lf false k = let is = sym none ∙ ap (λ r. r.0) (front.media-bad n channel item rest k) in absurd (cc)
 
--- where a line that has ended isn't told, bytes of its item are missing
+-- if a line that has ended isn't returned, bytes of its item are missing
 item-missing : (o : Option (List ℕ × ℕ)) (channel line rest bytes : List ℕ) → (front_item channel line o rest bytes).0 ≡ None
     → ((front_item channel line o rest bytes).1 ≡ at_line bytes) × (length rest ≤ media_limit)
 item-missing None channel line rest bytes none = absurd (cc)

@@ -1,3 +1,4 @@
+-- The definitions of this crate: a publisher's lines, and the lines that answer them.
 pub mod Found
 pub mod Laws
 pub mod Line

@@ -1,14 +1,14 @@
--- What a line of a publisher says.
+-- A line of a publisher.
 use Rattle.std.specs.Prelude.{ℕ, List}
 
 pub data Line : Type 0 where
   -- the name of a channel, the line of an item for it, and the item's bytes
   Item : List ℕ → List ℕ → List ℕ → Line
-  -- the name of a channel, and that of a rendition of it whose place is asked for
+  -- the question where a rendition stands: the names of its channel and of the rendition
   At : List ℕ → List ℕ → Line
-  -- it is no UTF-8, or has no space, or is that of an initialization section without its length, or no LF stands after its bytes
+  -- a line that isn't UTF-8, has no space, is that of an initialization section without its length, or whose item's bytes no LF follows
   Bad : Line
-  -- it is longer than a publisher's lines may be
+  -- a line of more than 4,096 bytes
   TooLong : Line
-  -- its item has more bytes than an item may have
+  -- a line whose item has more than 1,048,576 bytes
   MediaTooLong : Line

@@ -1,4 +1,4 @@
--- What a line is, as contracts see it.
+-- The value of a line, which contracts speak of.
 use Rattle.ll_publish.specs.Line as says
 use Rattle.ll_publish.specs.declared.line.Line.{Line}
 use Rattle.ll_publish.specs.declared.line.Line.TheVariants.{Item, At, Bad, TooLong, MediaTooLong}

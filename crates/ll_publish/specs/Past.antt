@@ -1,14 +1,14 @@
--- All that was done with a feed, and what it came to.
+-- All calls of a feed, and what they result in.
 use Rattle.std.specs.Prelude.{ℕ, List, [], ◌∷◌, ◌++◌, Option, Some, None, fold}
 use Rattle.ll_publish.specs.Lines.{FeedValue, fresh, front, with_bytes}
 use Rattle.ll_publish.specs.Line.{Line}
 
--- a call that changes a feed: `take`, `next`. A `take` that finds no memory changes nothing, and is left out
+-- a call that changes a feed: `take`, `next`. A `take` that fails changes nothing, and is left out
 pub data Call : Type 0 where
   Take : List ℕ → Call
   Next : Call
 
--- the feed, the bytes that it took, and the lines that it gave
+-- the feed, the bytes that it took in, and the lines that it returned
 pub record Past : Type 0 where
   pub feed : FeedValue
   pub taken : List ℕ

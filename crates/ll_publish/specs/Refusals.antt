@@ -13,7 +13,7 @@ use Rattle.ll_verdict.specs.declared.standing.Standing as verdict
 abbrev pub out_of_memory : Refusal
 out_of_memory = Rule fault.Memory
 
--- why a line is no item
+-- the refusal of a line that doesn't parse as an item
 abbrev pub item_refusal : ItemFault → Refusal
 item_refusal item.BadLine = BadLine
 item_refusal item.NoRendition = Rule fault.NoRendition
@@ -66,24 +66,25 @@ refusal_name UnknownChannel = codes "UnknownChannel"
 refusal_name LineTooLong = codes "LineTooLong"
 refusal_name MediaTooLong = codes "MediaTooLong"
 
--- a line that refuses
+-- the line that refuses, with a code and a name
 unfoldable pub refusal_line : ℕ → List ℕ → List ℕ
 refusal_line code name = codes "no " ++ (decimal code ++ (codes " " ++ (name ++ codes "\n")))
 
--- an item is accepted, with which the channel has so many
+-- the line that accepts an item, with which its channel has `count` items
 unfoldable pub ok_line : ℕ → List ℕ
 ok_line count = codes "ok " ++ (decimal count ++ codes "\n")
 
--- a publisher's line is refused
+-- the line that refuses a publisher's line
 abbrev pub no_line : Refusal → List ℕ
 no_line r = refusal_line (refusal_code r) (refusal_name r)
 
--- after the end of a rendition its place is told so
+-- the last word of the line below, if the rendition has ended
 abbrev pub ended_word : Bool → List ℕ
 ended_word false = []
 ended_word true = codes " ended"
 
--- where a rendition stands
+-- the line that says where a rendition stands: the channel's count of items; the segment number and the index of the next part; how long all
+-- parts last, in microseconds; and when the next part begins, in milliseconds
 unfoldable pub at_line : verdict.Standing → List ℕ
 at_line s =
     codes "at " ++ (decimal s.count ++ (codes " " ++ (decimal s.number ++ (codes " " ++ (decimal s.index

@@ -1,4 +1,4 @@
-//! The bytes of a publisher as they come.
+//! The bytes that a publisher sends, and the lines that are taken out of them.
 ghost use Rattle.std.specs.Prelude.{◌≡◌, OnErr, OnOk, option_map};
 ghost use Rattle.std.specs.Borrow.{sem};
 ghost use Rattle.std.specs.Io.BufRead.{Rests};
@@ -12,13 +12,13 @@ use crate::look::{end_of, look, missing};
 use std::alloc::{AllocError, Global};
 use std::marker::Model;
 
-/// The bytes of a publisher that no line was taken out of. They come in any pieces.
+/// The bytes of a publisher that haven't been taken out as lines yet. They come in any pieces.
 #[derive(Drop)]
 pub struct Feed {
     bytes: Vec<u8>,
-    /// How many of the bytes were taken out.
+    /// The number of bytes at the front that were taken out.
     at: usize,
-    /// Where a line is being passed over, how many bytes are before its end is looked for.
+    /// While a line is being passed over, the number of bytes before its end is searched for.
     passing: Option<u64>,
 }
 
@@ -34,7 +34,7 @@ impl Model for Feed {
 }
 
 impl Feed {
-    /// No bytes came yet.
+    /// Returns an empty feed.
     pub fn new(alloc: Global) -> Feed
         ensures { result ≡ fresh }
     {
@@ -45,8 +45,8 @@ impl Feed {
         }
     }
 
-    /// These bytes came. It fails where no memory is found, and then changes nothing. The memory for an item's bytes is taken at once, so
-    /// that it isn't taken twice while they come.
+    /// Takes in `bytes` that came. If this fails, nothing has changed. Reserves memory for all of an item's bytes at once, so that the
+    /// buffer doesn't grow while they come.
     pub fn take(&mut self, bytes: &[u8]) -> Result<(), AllocError>
         ensures ok { OnOk result (self.new ≡ with_bytes self.old bytes.now) }
         ensures err { OnErr result (self.new ≡ self.old) }
@@ -57,8 +57,9 @@ impl Feed {
         self.bytes.extend_from_slice(bytes)
     }
 
-    /// The front line, which then is taken out; nothing, where no further line has ended with its bytes and none is too long yet. A line
-    /// that is too long, or has too many bytes, is told once, as soon as it is, and the rest of it is passed over. It takes no memory.
+    /// Takes out the front line and returns it, or returns `None` if that line or its item's bytes haven't ended, and it isn't too long
+    /// yet. A line that is too long, or whose item has too many bytes, is returned once, as soon as that is known; the rest of it is
+    /// passed over.
     pub fn next(&mut self) -> Option<Line<'_>>
         ensures* left { sem 𝓛 (Rests the_row self.entry (λ f. f ≡ (front self.old).1)) }
         ensures line { option_map meant result ≡ (front self.old).0 }
@@ -73,7 +74,7 @@ impl Feed {
         Some(seen.line)
     }
 
-    /// Drops the bytes that were taken out, once they are more than the others: so fewer bytes are moved than are dropped.
+    /// Drops the bytes that were taken out, once they are more than half of all: so fewer bytes are moved than dropped.
     fn forget_taken(&mut self)
         ensures { self.new ≡ self.old }
     {
@@ -83,7 +84,7 @@ impl Feed {
         }
     }
 
-    /// Drops what is passed over, as much as has come.
+    /// Drops the bytes that are passed over, as far as they have come.
     fn settle(&mut self)
         ensures { self.new ≡ settled self.old }
     {
@@ -100,7 +101,7 @@ impl Feed {
         self.pass_line();
     }
 
-    /// Drops the rest of a line, as much as has come.
+    /// Drops the rest of a line, as far as it has come.
     fn pass_line(&mut self)
         ensures { self.new ≡ spec.past_end self.old.unread }
     {

@@ -1,4 +1,5 @@
-//! A publisher's stream: its lines, each of which announces an item of a channel or asks where a rendition stands, the bytes of items after them, and the lines that answer them.
+//! A publisher's stream: its lines, each of which announces an item of a channel or asks where a rendition stands, the bytes of
+//! items after them, and the lines that answer them.
 #![tactic(auto)]
 
 mod feed;

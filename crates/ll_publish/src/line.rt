@@ -1,3 +1,4 @@
+//! A line of a publisher, and how it is parsed.
 ghost use Rattle.std.specs.Prelude.{◌≡◌, MatchOption, None, Some};
 ghost use Rattle.ll_publish.specs.Lines.{asked_in, line_alone, line_of, parts, word_alone};
 ghost use Rattle.ll_publish.specs.Meaning.{meant};
@@ -6,26 +7,27 @@ use ll_attr::after;
 use ll_item::lacks_length;
 use std::str;
 
-/// The longest line of a publisher, in bytes, without its end.
+/// The most bytes of a publisher's line, without its end.
 pub(crate) const LINE_LIMIT: usize = 4_096;
 
-/// A line of a publisher, with the bytes after it that belong to its item.
+/// A line of a publisher, with its item's bytes, which follow it.
 #[derive(Clone, Copy, Debug)]
 pub enum Line<'a> {
-    /// The name of a channel, the line of an item for it, without the number of its bytes, and its bytes, perhaps none. None of them is looked at.
+    /// The name of a channel, the line of an item for it without the number of the item's bytes, and these bytes, perhaps none. None of
+    /// them is checked.
     Item(&'a str, &'a str, &'a [u8]),
-    /// A question: the name of a channel, and the name of a rendition of it whose place is asked for. Neither is looked at.
+    /// The question where a rendition stands: the names of its channel and of the rendition. Neither is checked.
     At(&'a str, &'a str),
-    /// It is no UTF-8, or has no space, or is that of an initialization section without its length, or no LF stands after its item's bytes.
+    /// A line that isn't UTF-8, has no space, is that of an initialization section without its length, or whose item's bytes no LF follows.
     Bad,
-    /// It has more than 4,096 bytes. The rest of it is passed over.
+    /// A line of more than 4,096 bytes. The rest of it is passed over.
     TooLong,
-    /// Its item has more than 1,048,576 bytes. They are passed over.
+    /// A line whose item has more than 1,048,576 bytes. They are passed over.
     MediaTooLong,
 }
 
 impl<'a> Line<'a> {
-    /// A line without its end, however long it is, after which no bytes are looked for.
+    /// Parses `text`, a line of any length without its end, that no item's bytes follow.
     pub fn of(text: &'a [u8]) -> Line<'a>
         ensures { meant result ≡ line_of text.now }
     {
@@ -35,8 +37,8 @@ impl<'a> Line<'a> {
         }
     }
 
-    /// Returns the line of this channel and item after which no bytes stand: a question, or an item. That of an initialization section tells
-    /// the number of its bytes.
+    /// Returns the line of `channel` and `item` that no bytes follow: a question, or an item. That of an initialization section is bad,
+    /// because it has to say its number of bytes.
     pub(crate) fn alone(channel: &'a str, item: &'a str) -> Line<'a>
         ensures { meant result ≡ line_alone channel.now item.now }
     {
@@ -50,7 +52,7 @@ impl<'a> Line<'a> {
     }
 }
 
-/// Returns the name of the rendition whose place is asked for, if `item` is `at RENDITION`.
+/// Returns the name of the rendition that is asked about, if `item` is `at RENDITION`.
 fn asked(item: &str) -> Option<&str>
     ensures { MatchOption result (asked_in item.now ≡ None) (λ name. asked_in item.now ≡ Some name.now) }
 {
@@ -60,7 +62,7 @@ fn asked(item: &str) -> Option<&str>
     }
 }
 
-/// Returns the text, if no space stands in it.
+/// Returns `text` if it has no space.
 fn one_word(text: &str) -> Option<&str>
     ensures { MatchOption result (word_alone (Some text.now) ≡ None) (λ word. word_alone (Some text.now) ≡ Some word.now) }
 {
@@ -70,7 +72,7 @@ fn one_word(text: &str) -> Option<&str>
     }
 }
 
-/// The channel's name and the item's line.
+/// Returns the channel's name and the item's line, or `None` if `text` isn't UTF-8 or has no space.
 pub(crate) fn parts_of(text: &[u8]) -> Option<(&str, &str)>
     ensures { MatchOption result (parts text.now ≡ None) (λ p. parts text.now ≡ Some (p.0.now, p.1.now)) }
 {

@@ -1,4 +1,4 @@
-//! What stands at the front of a publisher's bytes.
+//! Looks at the front line of a publisher's bytes.
 ghost use Rattle.std.specs.Prelude.{◌≡◌, ◌<◌, ◌≤◌, ◌==◌, ℕ, List, IfSome, MatchOption, None, false, length, nat_lt, true, if◌then◌else◌};
 ghost use Rattle.std.specs.List.{position_or_len};
 ghost use Rattle.std.specs.Str.Lines.{strip_carriage_return};
@@ -11,8 +11,8 @@ use crate::line::{LINE_LIMIT, Line, parts_of};
 use ll_item::{MEDIA_LIMIT, announced};
 use memchr::memchr;
 
-/// A line that is told, how many bytes are taken out with it, and, where its rest is to be passed over, how many bytes are before its end is
-/// looked for.
+/// A line that was found, the number of bytes that are taken out with it, and, if its rest is to be passed over, the number of bytes
+/// before its end is searched for.
 #[derive(Clone, Copy)]
 pub(crate) struct Seen<'a> {
     pub(crate) line: Line<'a>,
@@ -20,7 +20,7 @@ pub(crate) struct Seen<'a> {
     pub(crate) passing: Option<u64>,
 }
 
-/// The front line of bytes of which none are passed over, where it can be told.
+/// Returns the front line of `bytes`, none of which are passed over, or `None` if more bytes are needed.
 pub(crate) fn look(bytes: &[u8]) -> Option<Seen<'_>>
     ensures told { front_of bytes.now ≡ found result bytes.now }
     ensures within { IfSome result (λ s. s.taken ≤ length bytes.now) }
@@ -41,7 +41,7 @@ pub(crate) fn look(bytes: &[u8]) -> Option<Seen<'_>>
     Some(seen)
 }
 
-/// What is told of bytes in which no line ends.
+/// Returns the line of `bytes` in which no line ends: none, unless it is too long.
 fn look_at_open(bytes: &[u8]) -> Option<Seen<'_>>
     requires { has_end bytes.now ≡ false }
     ensures told { front_of bytes.now ≡ found result bytes.now }
@@ -57,7 +57,7 @@ fn look_at_open(bytes: &[u8]) -> Option<Seen<'_>>
     })
 }
 
-/// What is told of a line that isn't too long, after whose end this stands.
+/// Returns the line `line`, which isn't too long and which `rest` follows.
 fn look_at_line<'a>(line: &'a [u8], rest: &'a [u8]) -> Option<Seen<'a>>
     ensures told { (bytes : List ℕ) → front_parts (spec.parts line.now) rest.now bytes ≡ found_after result rest.now bytes }
     ensures within { IfSome result (λ s. s.taken ≤ length rest.now) }
@@ -72,7 +72,7 @@ fn look_at_line<'a>(line: &'a [u8], rest: &'a [u8]) -> Option<Seen<'a>>
     }
 }
 
-/// What is told of the item of a line, after whose end this stands: nothing, while bytes of the item are missing.
+/// Returns the line with the item's line `line`, which `rest` follows, or `None` while bytes of the item are missing.
 fn look_at_item<'a>(channel: &'a str, line: &'a str, rest: &'a [u8]) -> Option<Seen<'a>>
     ensures told { (bytes : List ℕ) → spec.front_item channel.now line.now (told.announced line.now) rest.now bytes ≡ found_after result rest.now bytes }
     ensures within { IfSome result (λ s. s.taken ≤ length rest.now) }
@@ -92,7 +92,7 @@ fn look_at_item<'a>(channel: &'a str, line: &'a str, rest: &'a [u8]) -> Option<S
     }
 }
 
-/// What is told of an item of so many bytes, after the end of whose line this stands.
+/// Returns the line of an item of `count` bytes, which `rest` follows, or `None` while some of them or the LF after them are missing.
 fn look_at_bytes<'a>(
     channel: &'a str,
     item: &'a str,
@@ -123,7 +123,8 @@ fn look_at_bytes<'a>(
     Some(seen)
 }
 
-/// How many bytes of the item at the front haven't come, with the LF after them; none where no line has ended, or no item of it has too few.
+/// Returns how many bytes of the front line's item haven't come, the LF after them counted: 0 if no line has ended, or if it announces
+/// no bytes or too many.
 pub(crate) fn missing(bytes: &[u8]) -> usize {
     let Some(end) = end_of(bytes) else {
         return 0;
@@ -139,7 +140,7 @@ pub(crate) fn missing(bytes: &[u8]) -> usize {
     }
 }
 
-/// Where the first line ends.
+/// Returns the index of the first LF.
 pub(crate) fn end_of(bytes: &[u8]) -> Option<usize>
     ensures { MatchOption result (has_end bytes.now ≡ false)
         (λ end. (has_end bytes.now ≡ true) × (end ≡ position_or_len (λ b. b == 10) bytes.now) × (end < length bytes.now)) }
@@ -147,7 +148,7 @@ pub(crate) fn end_of(bytes: &[u8]) -> Option<usize>
     memchr(b'\n', bytes)
 }
 
-/// A line less the CR that stands before its LF.
+/// Returns `line` without the CR that stands at its end.
 fn without_return(line: &[u8]) -> &[u8]
     ensures { result.now ≡ strip_carriage_return line.now }
 {

@@ -1,3 +1,4 @@
+//! Why a publisher's line is refused, with the numbers and names that publishers read.
 ghost use Rattle.std.specs.Prelude.{◌≡◌};
 ghost use Rattle.ll_publish.specs.Refusals.{refusal_code, refusal_name, rule_code, rule_name};
 
@@ -7,13 +8,13 @@ use ll_verdict::PublishFault;
 /// Why a publisher's line is refused.
 #[derive(Clone, Copy, Debug, PartialEq, Eq)]
 pub enum Refusal {
-    /// The channel doesn't accept the item.
+    /// The fault of an item that its channel doesn't accept.
     Rule(PublishFault),
-    /// A publisher's line that isn't of its form.
+    /// A line that isn't of its form.
     BadLine,
-    /// A channel that was not declared.
+    /// A channel that wasn't declared.
     UnknownChannel,
-    /// A publisher's line of more than 4,096 bytes, without its end.
+    /// A line of more than 4,096 bytes, without its end.
     LineTooLong,
     /// An item of more than 1,048,576 bytes.
     MediaTooLong,

@@ -1,4 +1,4 @@
-//! The lines that answer a publisher.
+//! Writes the lines that answer a publisher.
 ghost use Rattle.std.specs.Prelude.{◌≡◌, IfOk, string_bytes};
 ghost use Rattle.ll_publish.specs.Refusals as spec;
 
@@ -8,7 +8,7 @@ use itoa::Buffer;
 use ll_verdict::Standing;
 use std::alloc::{AllocError, Global};
 
-/// Returns the line that answers a publisher's line: what it is told, or why it is refused.
+/// Returns the line that answers a publisher's line.
 pub fn reply_text(alloc: Global, reply: &Result<Success, Refusal>) -> Result<String, AllocError>
     ensures { IfOk result (λ t. string_bytes t ≡ spec.reply_line reply.now) }
 {
@@ -19,7 +19,7 @@ pub fn reply_text(alloc: Global, reply: &Result<Success, Refusal>) -> Result<Str
     }
 }
 
-/// Returns the line that tells where a rendition stands.
+/// Returns the line that says where a rendition stands.
 #[tactic(auto, unfolding(crate::specs::Refusals::at_line))]
 pub fn at_line(alloc: Global, standing: &Standing) -> Result<String, AllocError>
     ensures { IfOk result (λ t. string_bytes t ≡ spec.at_line standing.now) }
@@ -36,7 +36,7 @@ pub fn at_line(alloc: Global, standing: &Standing) -> Result<String, AllocError>
     format!(in alloc; "at {count} {number} {index} {end_time} {time}{last}\n")
 }
 
-/// An item is accepted, with which the channel has so many.
+/// Returns the line that accepts an item, with which its channel has `count` items.
 #[tactic(auto, unfolding(crate::specs::Refusals::ok_line))]
 pub fn ok_line(alloc: Global, count: u64) -> Result<String, AllocError>
     ensures { IfOk result (λ t. string_bytes t ≡ spec.ok_line count) }
@@ -48,14 +48,14 @@ pub fn ok_line(alloc: Global, count: u64) -> Result<String, AllocError>
     Ok(line)
 }
 
-/// A publisher's line is refused.
+/// Returns the line that refuses a publisher's line for `reason`.
 pub fn no_line(alloc: Global, reason: Refusal) -> Result<String, AllocError>
     ensures { IfOk result (λ t. string_bytes t ≡ spec.no_line reason) }
 {
     refusal_line(alloc, reason.code(), reason.name())
 }
 
-/// A line that refuses, by a code and a name.
+/// Returns the line that refuses, with a code and a name.
 #[tactic(auto, unfolding(crate::specs::Refusals::refusal_line))]
 pub fn refusal_line(alloc: Global, code: u64, name: &str) -> Result<String, AllocError>
     ensures { IfOk result (λ t. string_bytes t ≡ spec.refusal_line code name.now) }

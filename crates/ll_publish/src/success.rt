@@ -1,10 +1,11 @@
+//! The answer to a publisher's line that isn't refused.
 use ll_verdict::Standing;
 
-/// What a publisher's line that isn't refused is answered.
+/// The answer to a publisher's line that isn't refused.
 #[derive(Clone, Copy, Debug, PartialEq, Eq)]
 pub enum Success {
-    /// The channel accepted the line's item. It has this number of items with it.
+    /// The number of items that the channel has with the line's item, which it accepted.
     Accepted(u64),
-    /// Its rendition stands here.
+    /// Where the rendition that was asked about stands.
     Standing(Standing),
 }

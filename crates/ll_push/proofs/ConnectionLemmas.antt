@@ -2,7 +2,7 @@
 use Rattle.std.proofs.Common.{◌≡◌, ◌⊎◌, inl, inr, ℕ, ◌+◌, ◌≤◌, Bool, false, List, Option, Some, None, Result, Ok, Err, IsErrAnd, IsErrOf, refl, ap, sym, subst, ◌∙◌, arith}
 use Rattle.ll_announce.specs.Messages.{question}
 use Rattle.ll_announce.specs.declared.standing.Standing.{Standing}
-use Rattle.ll_mp4.specs.declared.fault.Fault.{Fault}
+use Rattle.ll_mp4.specs.declared.fault.StreamFault.{StreamFault}
 use Rattle.ll_push.specs.Answers.{refuses}
 use Rattle.ll_push.specs.Connecting.{AcceptsNothing, HasFailed, HasMoved, IsAsked, IsBroken, IsConnection, IsEndless, IsPlaced, IsReady, Lost, Unknown, Went, Unasked, Moved, Unanswered, BadInput}
 use Rattle.ll_push.specs.Exchanges.{AreExchanged, IsExchanged, IsLost, IsUnanswered, LinkValue}
@@ -48,7 +48,7 @@ module _ (t : TargetValue) (before : Option Publication) (a : Ahead) (first then
         went-so q left done went = Went p q then left last done ready went
 
         pub broken-so : (fault : PushFault) → IsOfConnection fault → (fault ≡ Elsewhere → ⊥)
-            → ((why : Fault) → fault ≡ Input why → AreExchanged (messages_to_come t p a) then last × (fault_to_come p a ≡ Some why))
+            → ((why : StreamFault) → fault ≡ Input why → AreExchanged (messages_to_come t p a) then last × (fault_to_come p a ≡ Some why))
             → (fault ≡ BadAnswer → HasFailed t p a then last) → IsBroken t before a first last fault
         broken-so (Input why) of here input answer = let all = input why refl in BadInput p then ready all.0 why all.1
         broken-so Elsewhere of here input answer = absurd (here refl)

@@ -36,7 +36,7 @@ module _ {S P : Type 0} (t : Task S P) where
         pub broken-by : (fault : PushFault) → ((rest : Ahead) → left ≡ Some rest → IsBroken t.target p rest (t.value link) (t.value link_then) fault) → HasBroken t after fault
         broken-by fault broken = record { at = last_one link given; link_then = link_then; broken = broken went.0 went.1 }
 
-        -- of reads, so many at first, then and in the end
+        -- the number of reads at first, then and in the end
         pub lasted-by : (first then last : ℕ) → first ≤ then
             → ((rest : Ahead) → left ≡ Some rest → (then + most ≤ last) ⊎ IsEndless t.target p rest (t.value link) (t.value link_then))
             → (first + most ≤ last) ⊎ HasLasted t after

@@ -1,4 +1,4 @@
--- A line that says anything has no LF in it.
+-- A line that is an answer has no LF in it.
 use Rattle.std.proofs.Common.{◌≡◌, ℕ, ◌<◌, ◌≤◌, Bool, true, false, List, ◌∷◌, ◌++◌, Some, None, ap, refl, sym, ◌∙◌, cond, drop, length, nat_eq, nat_lt, is_some, slice_index_or, arith}
 use Rattle.std.specs.Prelude.{codes, ◌&&◌}
 use Rattle.std.specs.Char.{is_ascii_alphabetic, is_ascii_digit}

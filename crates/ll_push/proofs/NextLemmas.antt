@@ -4,7 +4,7 @@ use Rattle.std.specs.Io.KnownBytes.{Consumes, IsAtEnd, Keeps}
 use Rattle.ll_announce.specs.Courses.{begun, first_of, last_texts, later_readings, messages, spoken, texts}
 use Rattle.ll_announce.specs.Messages.{MessageValue, Names, end_message, init_message}
 use Rattle.ll_announce.specs.declared.course.Course.{Course}
-use Rattle.ll_mp4.specs.declared.fault.Fault.{Fault}
+use Rattle.ll_mp4.specs.declared.fault.StreamFault.{StreamFault}
 use Rattle.ll_parts.proofs.StreamLemmas.{bytes_come, end_comes}
 use Rattle.ll_parts.specs.Stream.{CutterValue, Outcome, closed, to_come, with_bytes, with_piece}
 use Rattle.ll_parts.specs.declared.pieces.Piece.{Piece}
@@ -15,7 +15,7 @@ use Rattle.ll_push.specs.declared.fault.PushFault.{PushFault}
 use Rattle.ll_push.specs.declared.publication.Publication.{Publication}
 use Rattle.ll_push.proofs.PieceLemmas.{over-comes}
 
--- ---- what is told of the encoder's bytes and of the clock
+-- ---- what is known of the encoder's bytes and of the clock
 
 pub told-left : (left coming : Option (List ℕ)) (a : Ahead) → told_ahead left coming ≡ Some a → left ≡ Some a.input
 told-left (Some input) (Some readings) a e = ap (λ (o : Option Ahead). input_of o) e
@@ -123,7 +123,7 @@ none-readily t p q a left told none still front place course ends = (
 )
 
 -- a fault ends it
-pub nothing-faulty : (t : TargetValue) (p : Publication) (a : Ahead) (fault : Fault) → p.kept ≡ [] → ((input : List ℕ) → to_come p.cutter input ≡ with_fault fault)
+pub nothing-faulty : (t : TargetValue) (p : Publication) (a : Ahead) (fault : StreamFault) → p.kept ≡ [] → ((input : List ℕ) → to_come p.cutter input ≡ with_fault fault)
     → IsNothing t p a (Some fault)
 nothing-faulty t p a fault none e = (
   ap (λ k. k ++ messages t.names t.lengths.part p.ends p.course a.readings (to_come p.cutter a.input)) none
@@ -155,7 +155,7 @@ module _ (t : TargetValue) (p q : Publication) (a : Ahead) (left : Option Ahead)
     place = more.place ∙ same.place;
   }
 
-  pub same-nothing : (fault : Option Fault) → IsNothing t q same.rest fault → IsNothing t p a fault
+  pub same-nothing : (fault : Option StreamFault) → IsNothing t q same.rest fault → IsNothing t p a fault
   same-nothing fault none = (same.messages ∙ none.0, same.fault ∙ none.1)
 
   pub same-taken : (r : Publication) (left_then : Option Ahead) (o : Option MessageValue) → IsTaken t q same.rest r left_then o → IsTaken t p a r left_then o

@@ -7,12 +7,12 @@ use Rattle.ll_mp4.specs.Boxes.{boxes}
 use Rattle.ll_mp4.specs.Lefts.{index_size}
 use Rattle.ll_mp4.specs.Streams.{Left, Told, fed, front, front_unit, told, without_index}
 use Rattle.ll_mp4.specs.Units.{Unit, Open, Refused, Closed, unit_of}
-use Rattle.ll_mp4.specs.declared.fault.Fault.{Fault}
+use Rattle.ll_mp4.specs.declared.fault.StreamFault.{StreamFault}
 use Rattle.ll_parts.proofs.StreamLemmas.{bytes_come, end_comes, piece_is_first, units_come}
 use Rattle.ll_parts.specs.Stream.{CutterValue, Outcome, Progress, advanced, advanced_cutter, advanced_from, after_front, closed, ended, ended_by, outcome, to_come, with_bytes, with_first, with_piece}
 use Rattle.ll_parts.specs.declared.pieces.Piece.{Piece}
 use Rattle.ll_parts.specs.declared.pieces.Piece.TheVariants.{Begin, Init, Media, Break}
-use Rattle.ll_mp4.specs.declared.fault.Fault.TheVariants as input
+use Rattle.ll_mp4.specs.declared.fault.StreamFault.TheVariants as input
 use Rattle.ll_push.specs.Faults.{of_input}
 use Rattle.ll_push.specs.Next.{IsEmpty, IsFront, IsPieceFault, IsUnitFault}
 use Rattle.ll_push.specs.declared.fault.PushFault.{PushFault}
@@ -20,22 +20,22 @@ use Rattle.ll_push.specs.declared.fault.PushFault.TheVariants.{Input, Read, Cloc
 
 -- ---- a fault that was met
 
-pub over-comes : (c : CutterValue) (input : List ℕ) (fault : Option Fault) → c.is_over ≡ true → c.progress.pieces ≡ [] → c.progress.fault ≡ fault
+pub over-comes : (c : CutterValue) (input : List ℕ) (fault : Option StreamFault) → c.is_over ≡ true → c.progress.pieces ≡ [] → c.progress.fault ≡ fault
     → to_come c input ≡ record { pieces = []; fault = fault }
 over-comes c input fault over empty is =
     ap (λ b. if◌then◌else◌ {A = Outcome} b (record { pieces = c.progress.pieces; fault = c.progress.fault }) (outcome c.progress (told (fed c.left input)))) over
     ∙ ap (λ ps. record { pieces = ps; fault = c.progress.fault }) empty ∙ ap (λ f. record { pieces = []; fault = f }) is
 
-over-by : (over : Bool) (r : Option Fault) (fault : Fault) → (over ≡ false → r ≡ None) → r ≡ Some fault → over ≡ true
+over-by : (over : Bool) (r : Option StreamFault) (fault : StreamFault) → (over ≡ false → r ≡ None) → r ≡ Some fault → over ≡ true
 over-by true r fault h e = refl
 over-by false r fault h e = let none : None ≡ Some fault = sym (h refl) ∙ e in absurd (cc)
 
--- one that is told is met, and the input is over
-pub unit-fault : (c : CutterValue) (fault : Fault) (push : PushFault) (r : Option Fault) → r ≡ c.progress.fault → (c.is_over ≡ false → r ≡ None) → r ≡ Some fault
+-- a fault that is returned was met, and the input is over
+pub unit-fault : (c : CutterValue) (fault : StreamFault) (push : PushFault) (r : Option StreamFault) → r ≡ c.progress.fault → (c.is_over ≡ false → r ≡ None) → r ≡ Some fault
     → push ≡ of_input fault → IsUnitFault c push
 unit-fault c fault push r is over e of = subst (IsUnitFault c) (sym of) (by_kind fault (sym is ∙ e) (over-by c.is_over r fault over e))
   where
-    by_kind : (f : Fault) → c.progress.fault ≡ Some f → c.is_over ≡ true → IsUnitFault c (of_input f)
+    by_kind : (f : StreamFault) → c.progress.fault ≡ Some f → c.is_over ≡ true → IsUnitFault c (of_input f)
     by_kind input.BadBox h o = (h, o)
     by_kind input.TooLarge h o = (h, o)
     by_kind input.NoMoov h o = (h, o)
@@ -56,7 +56,7 @@ err-of (Err e) fault P is p = subst P (sym is) p
 abbrev pub Comes : CutterValue → CutterValue → Type 0
 Comes c after = (input : List ℕ) → to_come c input ≡ to_come after input
 
--- where no piece is there, nothing changes
+-- if no piece is there, nothing changes
 pub comes-after : (first c mid : CutterValue) → Comes first c → mid ≡ c → Comes first mid
 comes-after first c mid same e input = same input ∙ ap (λ x. to_come x input) (sym e)
 
@@ -83,16 +83,16 @@ unit-none left Open e = refl
 unit-none left (Refused fault) e = absurd (cc)
 unit-none left (Closed size) e = absurd (cc)
 
--- where no unit is there, none is there again
-front-again : (c : CutterValue) (left : Left) (r : Result (Option (List ℕ)) Fault × Left) → front_unit (without_index left) (unit_of (without_index left).unread) ≡ r
+-- if no unit is there, none is there again
+front-again : (c : CutterValue) (left : Left) (r : Result (Option (List ℕ)) StreamFault × Left) → front_unit (without_index left) (unit_of (without_index left).unread) ≡ r
     → (after_front c r).0 ≡ false → front r.1 ≡ r
 front-again c left ((Ok None), after) is e =
-    let same : after ≡ without_index left = sym (ap (λ (r : Result (Option (List ℕ)) Fault × Left). r.1) is) ∙ unit-none (without_index left) (unit_of (without_index left).unread) (ap (λ (r : Result (Option (List ℕ)) Fault × Left). r.0) is) in
+    let same : after ≡ without_index left = sym (ap (λ (r : Result (Option (List ℕ)) StreamFault × Left). r.1) is) ∙ unit-none (without_index left) (unit_of (without_index left).unread) (ap (λ (r : Result (Option (List ℕ)) StreamFault × Left). r.0) is) in
     ap front same ∙ ap (λ l. front_unit l (unit_of l.unread)) (without-twice left) ∙ is
 front-again c left ((Ok (Some unit)), after) is e = absurd (cc)
 front-again c left ((Err fault), after) is e = absurd (cc)
 
-none-front : (c : CutterValue) (r : Result (Option (List ℕ)) Fault × Left) → (after_front c r).0 ≡ false → c.is_over ≡ false → front r.1 ≡ r
+none-front : (c : CutterValue) (r : Result (Option (List ℕ)) StreamFault × Left) → (after_front c r).0 ≡ false → c.is_over ≡ false → front r.1 ≡ r
     → advanced_cutter (after_front c r).1 ≡ (false, (after_front c r).1)
 none-front c ((Ok None), left) e going again =
     ap (λ over. if◌then◌else◌ {A = Bool × CutterValue} over (false, record c { left = left }) (after_front (record c { left = left }) (front left))) going
@@ -108,7 +108,7 @@ none-by c true is e = ap (λ over. if◌then◌else◌ {A = Bool × CutterValue}
 none-by c false is e = none-front c (front c.left) e is (front-again c c.left (front c.left) refl e)
 
 -- nor does it bring a piece or a fault
-front-bare : (c : CutterValue) (r : Result (Option (List ℕ)) Fault × Left) → (after_front c r).0 ≡ false → (after_front c r).1.progress ≡ c.progress
+front-bare : (c : CutterValue) (r : Result (Option (List ℕ)) StreamFault × Left) → (after_front c r).0 ≡ false → (after_front c r).1.progress ≡ c.progress
 front-bare c ((Ok None), left) e = refl
 front-bare c ((Ok (Some unit)), left) e = absurd (cc)
 front-bare c ((Err fault), left) e = absurd (cc)
@@ -148,7 +148,7 @@ unit-fewer left given (Refused fault) after stays e = absurd (cc)
 unit-fewer left given (Closed size) after stays e = let d = length-drop size left.unread in omega (arith, d, stays.1, stays.2)
 
 -- a fault changes nothing but that an index is dropped
-unit-same : (left : Left) (unit : Unit) (fault : Fault) → (front_unit left unit).0 ≡ Err fault → (front_unit left unit).1 ≡ left
+unit-same : (left : Left) (unit : Unit) (fault : StreamFault) → (front_unit left unit).0 ≡ Err fault → (front_unit left unit).1 ≡ left
 unit-same left Open fault e = refl
 unit-same left (Refused other) fault e = refl
 unit-same left (Closed size) fault e = absurd (cc)
@@ -156,20 +156,20 @@ unit-same left (Closed size) fault e = absurd (cc)
 index-few : (left : Left) → length (without_index left).unread ≤ length left.unread
 index-few left = let d = length-drop (left.skip + index_size (boxes (drop left.skip left.unread))) left.unread in omega (arith, d)
 
-front-fewer : (c after : CutterValue) (r : Result (Option (List ℕ)) Fault × Left) → front c.left ≡ r → (true, after) ≡ after_front c r
+front-fewer : (c after : CutterValue) (r : Result (Option (List ℕ)) StreamFault × Left) → front c.left ≡ r → (true, after) ≡ after_front c r
     → fuel after < length c.left.unread + 1
 front-fewer c after ((Ok None), left) is e = let k : true ≡ false = ap (λ (x : Bool × CutterValue). x.0) e in absurd (cc)
 front-fewer c after ((Ok (Some unit)), left) is e =
     let inside = without_index c.left in
-    let fewer = unit-fewer inside unit (unit_of inside.unread) (unit_of (inside.unread ++ [])) (unit_stays inside.unread []) (ap (λ (r : Result (Option (List ℕ)) Fault × Left). r.0) is) in
-    let same : length (front c.left).1.unread ≡ length left.unread = ap (λ (r : Result (Option (List ℕ)) Fault × Left). length r.1.unread) is in
+    let fewer = unit-fewer inside unit (unit_of inside.unread) (unit_of (inside.unread ++ [])) (unit_stays inside.unread []) (ap (λ (r : Result (Option (List ℕ)) StreamFault × Left). r.0) is) in
+    let same : length (front c.left).1.unread ≡ length left.unread = ap (λ (r : Result (Option (List ℕ)) StreamFault × Left). length r.1.unread) is in
     let now : length after.left.unread ≡ length left.unread = ap (λ (x : Bool × CutterValue). length x.1.left.unread) e in
     let one = few after.is_over in
     let index = index-few c.left in
     omega (arith, fewer, same, now, one, index)
 front-fewer c after ((Err fault), left) is e =
     let inside = without_index c.left in
-    let same : left ≡ inside = sym (ap (λ (r : Result (Option (List ℕ)) Fault × Left). r.1) is) ∙ unit-same inside (unit_of inside.unread) fault (ap (λ (r : Result (Option (List ℕ)) Fault × Left). r.0) is) in
+    let same : left ≡ inside = sym (ap (λ (r : Result (Option (List ℕ)) StreamFault × Left). r.1) is) ∙ unit-same inside (unit_of inside.unread) fault (ap (λ (r : Result (Option (List ℕ)) StreamFault × Left). r.0) is) in
     let now : length after.left.unread ≡ length inside.unread = ap (λ (x : Bool × CutterValue). length x.1.left.unread) e ∙ ap (λ (l : Left). length l.unread) same in
     let last : count after.is_over ≡ 0 = ap (λ (x : Bool × CutterValue). count x.1.is_over) e in
     let index = index-few c.left in

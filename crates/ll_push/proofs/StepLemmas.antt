@@ -10,7 +10,7 @@ use Rattle.ll_announce.specs.Messages.{MessageValue}
 use Rattle.ll_device.specs.Inward.{looked_at}
 use Rattle.ll_device.specs.Written.{AppendsPrefix}
 use Rattle.ll_device.proofs.InwardLemmas.{looked_at-none, looked_at-on}
-use Rattle.ll_mp4.specs.declared.fault.Fault.{Fault}
+use Rattle.ll_mp4.specs.declared.fault.StreamFault.{StreamFault}
 use Rattle.ll_push.specs.Answers.{accepts, ended, lines_text, refuses}
 use Rattle.ll_push.specs.Connecting.{HasFailed, TellsUnasked}
 use Rattle.ll_push.specs.Exchanges.{AreExchanged, IsExchanged, IsLost, IsUnanswered, LinkValue, bytes_of, text_of}
@@ -132,7 +132,7 @@ module _ (t : TargetValue) (p : Publication) (a : Ahead) (first : LinkValue) (s 
   }
 
   -- there are no more
-  pub all-sent : (fault : Option Fault) → ((rest : Ahead) → left ≡ Some rest → IsNothing t s rest fault) → AreExchanged (messages_to_come t p a) first mid × (fault_to_come p a ≡ fault)
+  pub all-sent : (fault : Option StreamFault) → ((rest : Ahead) → left ≡ Some rest → IsNothing t s rest fault) → AreExchanged (messages_to_come t p a) first mid × (fault_to_come p a ≡ fault)
   all-sent fault nothing =
       let none = nothing so_far.goes.rest so_far.goes.is_left in (
         subst (λ l. AreExchanged l first mid)
@@ -221,7 +221,7 @@ module _ (t : TargetValue) (p : Publication) (a : Ahead) (first : LinkValue) (s 
             some-by : (m : ℕ) → m ≡ length so_far.sent + 1 → nat_le 1 m ≡ true
             some-by m h = grind (arith, nat_tests)
 
-        -- as it was told
+        -- by the answer that was read
         pub delivered : (d : Delivery) → IsDelivered message.bytes mid last d → d ≡ delivery.Accepted
             → SoFar t p a first (record after { place = led_by after.place message }) left_then last true (n + 1)
         delivered d said e = let ok = subst (IsDelivered message.bytes mid last) e said in message-more ok.0 ok.1 ok.2

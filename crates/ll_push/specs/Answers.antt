@@ -1,4 +1,4 @@
--- What a line of an origin says, without its end.
+-- The answers of an origin: what a line, without its end, says.
 use Rattle.std.specs.Prelude.{◌≡◌, ◌⊎◌, ⊤, ℕ, ◌&&◌, ◌==◌, Bool, true, false, List, [], ◌∷◌, ◌++◌, IsUtf8, Option, Some, None, codes, flat_map, is_some, length, nat_le, if◌then◌else◌}
 use Rattle.std.specs.List.{list_all, list_any, before_first, after_first}
 use Rattle.std.specs.Char.{is_ascii_alphabetic}
@@ -18,7 +18,7 @@ abbrev pub counts : Option (List ℕ) → Bool
 counts (Some count) = is_some (number_in 20 count)
 counts None = false
 
--- a message is accepted: the number is how many items the channel has with it
+-- the line accepts a message; its number is how many items the channel has with it
 abbrev pub accepts : List ℕ → Bool
 accepts line = counts (after (codes "ok ") line)
 
@@ -29,7 +29,7 @@ is_word text = nat_le 1 (length text) && list_all is_ascii_alphabetic text
 abbrev pub is_space : ℕ → Bool
 is_space b = b == 32
 
--- what stands before the first space, and what stands after it, where there is one
+-- what stands before the first space, and what stands after it, if there is one
 abbrev pub halves : List ℕ → Option (List ℕ × List ℕ)
 halves text = if list_any is_space text then Some (before_first is_space text, after_first is_space text) else None
 
@@ -45,31 +45,31 @@ abbrev pub gives : Option (List ℕ) → Bool
 gives (Some reason) = is_reason reason
 gives None = false
 
--- a message is refused
+-- the line refuses a message
 abbrev pub refuses : List ℕ → Bool
 refuses line = gives (after (codes "no ") line)
 
--- it says nothing, or is no text
+-- the line isn't an answer, or isn't UTF-8
 abbrev pub IsNone : List ℕ → Type 0
 IsNone line = ¬ (IsUtf8 line) ⊎ ((accepts line ≡ false) × (refuses line ≡ false) × (standing.read line ≡ None))
 
--- an answer is what its line says; one that refuses is the line itself
+-- the answer is what the line says; one that refuses is the line itself
 abbrev pub IsSaid : List ℕ → Answer → Type 0
 IsSaid line Accepted = accepts line ≡ true
 IsSaid line (Standing s) = standing.read line ≡ Some s
 IsSaid line (Refused text) = (text ≡ line) × (refuses line ≡ true)
 
--- why a line gives no answer: it says nothing, or no memory was found for one that refuses
+-- why a line gives no answer: it isn't one; or out of memory for one that refuses
 abbrev pub IsUnsaid : List ℕ → NoAnswer → Type 0
 IsUnsaid line no.Bad = IsNone line
 IsUnsaid line no.Memory = refuses line ≡ true
 IsUnsaid line no.Lost = ⊥
 
--- a line with its end
+-- a line with LF
 abbrev pub ended : List ℕ → List ℕ
 ended line = line ++ 10 ∷ []
 
--- lines one after another, each with its end
+-- lines one after another, each with LF
 abbrev pub lines_text : List (List ℕ) → List ℕ
 lines_text lines = flat_map ended lines
 

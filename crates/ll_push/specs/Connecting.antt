@@ -1,4 +1,4 @@
--- How one connection goes: the rendition's place is asked, and publishing goes on there.
+-- How one connection goes: the origin is asked where the rendition stands, and publishing goes on there.
 use Rattle.std.specs.Prelude.{◌≡◌, ℕ, true, false, List, ◌∷◌, Option, Some, None}
 use Rattle.ll_announce.specs.Messages.{MessageValue, question}
 use Rattle.ll_announce.specs.Places.{led}
@@ -15,19 +15,19 @@ use Rattle.ll_push.specs.declared.publication.Publication.{Publication}
 use Rattle.ll_push.specs.declared.publication.Step.{Step}
 use Rattle.ll_push.specs.declared.publication.Step.TheVariants.{Refused, Gone}
 
--- What is still to be sent where the rendition's next part has this place: all that wasn't accepted; or, where the place is the one to which the first of that leads, what comes
--- after it. A message that leads nowhere, a section or a break, is sent again.
+-- What is still to be sent if the rendition's next part stands at `place`: all that isn't known to be accepted; or, if its first message
+-- leads to `place`, what comes after that message. A message that moves no place, a section or a break, is sent again.
 pub data IsResumed (p : Publication) (place : Place) : Publication → Type 0 where
   Here : p.place ≡ place → IsResumed p place p
   Accepted : (p.place ≡ place → ⊥) → (message : MessageValue) (later : List MessageValue) → p.kept ≡ message ∷ later → led p.place message.said ≡ place
       → IsResumed p place (record p { place = place; kept = later })
 
--- the place is none of these
+-- `place` is neither of these
 pub record IsElsewhere (p : Publication) (place : Place) : Type 0 where
   pub not_here : p.place ≡ place → ⊥
   pub not_after : (message : MessageValue) (later : List MessageValue) → p.kept ≡ message ∷ later → led p.place message.said ≡ place → ⊥
 
--- what is to be sent where the rendition stands there; at first, all
+-- what is to be sent if the rendition stands at `s`: on the first connection everything
 abbrev pub IsPlaced : TargetValue → Option Publication → Standing → Publication → Type 0
 IsPlaced t None s p = p ≡ at_start t s
 IsPlaced t (Some before) s p = IsResumed before s.place p
@@ -40,7 +40,7 @@ abbrev pub HasMoved : Option Publication → Standing → Type 0
 HasMoved None s = ⊥
 HasMoved (Some before) s = IsElsewhere before s.place
 
--- the rendition's place was asked, and told
+-- the origin was asked where the rendition stands, and answered `s`
 pub record IsAsked (t : TargetValue) (first : LinkValue) (s : Standing) (then : LinkValue) : Type 0 where
   pub line : List ℕ
   pub exchanged : IsExchanged (question t.names) line first then
@@ -52,7 +52,7 @@ pub record IsReady (t : TargetValue) (before : Option Publication) (first : Link
   pub asked : IsAsked t first standing then
   pub placed : IsPlaced t before standing p
 
--- How a connection goes: it was lost before the place was told, the question is refused, or publishing goes on.
+-- How a connection goes: it is lost before the question is answered, the question is refused, or publishing goes on.
 pub data IsConnection (t : TargetValue) (before : Option Publication) (ahead : Ahead) (first : LinkValue) : Option Publication → Option Ahead → LinkValue → Step → Type 0 where
   Lost : (left : Option Ahead) (last : LinkValue) → left ≡ Some ahead → IsLost (question t.names) first last → IsConnection t before ahead first before left last (Gone false)
   Unknown : (after : Option Publication) (left : Option Ahead) (last : LinkValue) (line : List ℕ) → IsExchanged (question t.names) line first last → refuses line ≡ true
@@ -64,17 +64,17 @@ pub data IsConnection (t : TargetValue) (before : Option Publication) (ahead : A
 abbrev pub AcceptsNothing : List ℕ → Type 0
 AcceptsNothing line = accepts line ≡ true
 
--- a line that tells a place, though none was asked
+-- a line that says where the rendition stands, though that wasn't asked
 abbrev pub TellsUnasked : List ℕ → Type 0
 TellsUnasked line = (s : Standing) × (standing.read line ≡ Some s)
 
--- Some messages were sent and accepted, and then one has no answer.
+-- Some messages were sent and accepted, and then one got no answer.
 pub record HasFailed (t : TargetValue) (before : Publication) (ahead : Ahead) (first last : LinkValue) : Type 0 where
   pub at : HasSentUpTo t before ahead first
   pub unanswered : IsUnanswered TellsUnasked at.message.bytes at.mid last
 
--- Why publishing ends on a connection: the question or a message has no answer; the rendition stands elsewhere; all messages before the fault of the encoder's bytes were sent and
--- accepted.
+-- Why publishing ends on a connection: the question or a message got no answer; the rendition stands elsewhere; or all messages before the
+-- fault of the encoder's bytes were sent and accepted.
 pub data IsBroken (t : TargetValue) (before : Option Publication) (ahead : Ahead) (first last : LinkValue) : PushFault → Type 0 where
   Unasked : IsUnanswered AcceptsNothing (question t.names) first last → IsBroken t before ahead first last fault.BadAnswer
   Moved : (s : Standing) → IsAsked t first s last → HasMoved before s → IsBroken t before ahead first last fault.Elsewhere
@@ -82,7 +82,7 @@ pub data IsBroken (t : TargetValue) (before : Option Publication) (ahead : Ahead
   BadInput : (p : Publication) (then : LinkValue) → IsReady t before first p then → AreExchanged (messages_to_come t p ahead) then last → (why : _)
       → fault_to_come p ahead ≡ Some why → IsBroken t before ahead first last (fault.Input why)
 
--- it went on for too long
+-- 2^64 - 1 messages were sent on the connection and accepted
 pub record IsEndless (t : TargetValue) (before : Option Publication) (ahead : Ahead) (first last : LinkValue) : Type 0 where
   pub publication : Publication
   pub then : LinkValue

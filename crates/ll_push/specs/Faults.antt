@@ -1,16 +1,16 @@
--- Why an encoder's bytes aren't published.
+-- Why not all of an encoder's bytes are published.
 use Rattle.std.specs.Prelude.{ℕ, ◌-◌, ◌^◌, ⊤}
-use Rattle.ll_mp4.specs.declared.fault.Fault.{Fault}
-use Rattle.ll_mp4.specs.declared.fault.Fault.TheVariants as input
+use Rattle.ll_mp4.specs.declared.fault.StreamFault.{StreamFault}
+use Rattle.ll_mp4.specs.declared.fault.StreamFault.TheVariants as input
 use Rattle.ll_push.specs.declared.fault.PushFault.{PushFault}
 use Rattle.ll_push.specs.declared.fault.PushFault.TheVariants.{Input, Read, Clock, Elsewhere, BadAnswer, Memory, Endless}
 
--- the fault of an encoder's bytes; out of memory is told as such
-abbrev pub of_input : Fault → PushFault
+-- the fault of an encoder's bytes as one of publishing; `Memory` stays `Memory`
+abbrev pub of_input : StreamFault → PushFault
 of_input input.Memory = Memory
 of_input other = Input other
 
--- a fault that shows in what was sent on the last connection, and in what came
+-- a fault that contracts explain by what was sent on the last connection, and by what came
 abbrev pub IsOfConnection : PushFault → Type 0
 IsOfConnection (Input fault) = ⊤
 IsOfConnection Elsewhere = ⊤
@@ -33,6 +33,6 @@ IsOfBytes Clock = ⊤
 IsOfBytes Memory = ⊤
 IsOfBytes other = ⊥
 
--- how many reads, messages or connections without an end are told as Endless
+-- the number of reads, messages or connections after which publishing is Endless
 abbrev pub most : ℕ
 most = 2 ^ 64 - 1

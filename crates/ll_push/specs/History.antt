@@ -1,4 +1,4 @@
--- How publishing went on, connection by connection.
+-- How publishing goes, connection by connection.
 use Rattle.std.specs.Prelude.{◌≡◌, ◌⊎◌, ◌≤◌, ◌+◌, ℕ, Bool, true, false, Option, Some, None}
 use Rattle.ll_push.specs.Connecting.{IsBroken, IsConnection, IsEndless}
 use Rattle.ll_push.specs.Exchanges.{LinkValue}
@@ -16,13 +16,13 @@ abbrev pub idle_after : Bool → ℕ → ℕ
 idle_after true idle = 0
 idle_after false idle = idle + 1
 
--- the last connection went as far as publishing did
+-- how far the last connection went, by how publishing ended
 abbrev pub step_of : Ending → Step
 step_of ending.Whole = step.Whole
 step_of (ending.Refused line) = step.Refused line
 
--- What is to be published of which input, and on which connections: `gives` says which connection the source may give next, `value` what a connection tells, and `tries` how many in a
--- row may have nothing accepted before one more is taken.
+-- What is to be published, of which input, and on which connections: `gives` says which connection the source can give next, `value` what is
+-- known of a connection, and `tries` how many in a row are allowed to have nothing accepted.
 pub record Task (S P : Type 0) : Type 1 where
   pub gives : S → Option P → S → Type 0
   pub value : P → LinkValue
@@ -31,22 +31,23 @@ pub record Task (S P : Type 0) : Type 1 where
   pub ahead : Ahead
   pub origin : S
 
--- What came of it after some connections that were lost, and how many of the last ones in a row had nothing accepted. Nothing is known of the rendition before it was asked.
+-- The publication after some connections that were lost, what is still to come, and how many of the last ones in a row had nothing accepted.
+-- There is no publication before the origin has answered where the rendition stands.
 pub data HasGoneOn {S P : Type 0} (t : Task S P) : Option Publication → Ahead → S → ℕ → Type 0 where
-  -- no connection was made
+  -- before the first connection
   AtStart : HasGoneOn t None t.ahead t.origin 0
-  -- one more
+  -- one more connection, which was lost
   Another : (p q : Option Publication) (rest later : Ahead) (before after : S) (link link_then : P) (idle : ℕ) (accepted : Bool)
       → HasGoneOn t p rest before idle → idle ≤ t.tries → t.gives before (Some link) after
       → IsConnection t.target p rest (t.value link) q (Some later) (t.value link_then) (step.Gone accepted)
       → HasGoneOn t q later after (idle_after accepted idle)
 
--- how many connections there were
+-- the number of connections
 abbrev pub connections : {S P : Type 0} {t : Task S P} {p : Option Publication} {rest : Ahead} {o : S} {idle : ℕ} → HasGoneOn t p rest o idle → ℕ
 connections AtStart = 0
 connections (Another p q rest later before after link link_then idle accepted earlier few given gone) = connections earlier + 1
 
--- After such connections the source gave one more.
+-- After connections that were lost the source gave one more.
 pub record HasLast {S P : Type 0} (t : Task S P) (after : S) : Type 0 where
   pub publication : Option Publication
   pub rest : Ahead
@@ -57,20 +58,20 @@ pub record HasLast {S P : Type 0} (t : Task S P) (after : S) : Type 0 where
   pub link : P
   pub given : t.gives before (Some link) after
 
--- The last connection went so far.
+-- The last connection went as far as `last` says.
 pub record HasEnded {S P : Type 0} (t : Task S P) (left : Option Ahead) (after : S) (last : Step) : Type 0 where
   pub at : HasLast t after
   pub then : Option Publication
   pub link_then : P
   pub is_step : IsConnection t.target at.publication at.rest (t.value at.link) then left (t.value link_then) last
 
--- On the last connection publishing ended for this reason.
+-- On the last connection publishing failed with `fault`.
 pub record HasBroken {S P : Type 0} (t : Task S P) (after : S) (fault : PushFault) : Type 0 where
   pub at : HasLast t after
   pub link_then : P
   pub broken : IsBroken t.target at.publication at.rest (t.value at.link) (t.value link_then) fault
 
--- After such connections the source gave none, or too many in a row had nothing accepted.
+-- After connections that were lost the source gave no more, or too many in a row had nothing accepted.
 pub record HasGivenUp {S P : Type 0} (t : Task S P) (left : Option Ahead) (after : S) : Type 0 where
   pub publication : Option Publication
   pub rest : Ahead
@@ -80,7 +81,7 @@ pub record HasGivenUp {S P : Type 0} (t : Task S P) (left : Option Ahead) (after
   pub went : HasGoneOn t publication rest before idle
   pub why : ((idle ≤ t.tries) × t.gives before None after) ⊎ ((idle ≡ t.tries + 1) × (after ≡ before))
 
--- On one more connection, or over all of them, it went on for too long.
+-- 2^64 - 1 messages were accepted on one more connection, or 2^64 - 1 connections were lost.
 pub data HasLasted {S P : Type 0} (t : Task S P) (after : S) : Type 0 where
   OnOne : (at : HasLast t after) (link_then : P) → IsEndless t.target at.publication at.rest (t.value at.link) (t.value link_then) → HasLasted t after
   OnAll : (p : Option Publication) (rest : Ahead) (idle : ℕ) (went : HasGoneOn t p rest after idle) → connections went ≡ most → HasLasted t after

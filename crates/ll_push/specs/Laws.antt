@@ -7,7 +7,8 @@ use Rattle.ll_parts.specs.Stream.{published}
 use Rattle.ll_push.specs.Answers.{accepts, refuses}
 use Rattle.ll_push.specs.Publishing.{Ahead, TargetValue, at_start, fault_to_come, messages_to_come}
 
--- What is to be sent from the start on are the messages of what is published of all the encoder's bytes, in a rendition that stands there, and the fault that ends them is theirs.
+-- At the start, in a rendition that stands at `s`, the messages to be sent are those of the pieces of all the encoder's bytes, and the fault
+-- that ends them is that of these bytes.
 abbrev pub FromTheStart : Type 0
 FromTheStart = (t : TargetValue) (s : Standing) (ahead : Ahead)
     → (messages_to_come t (at_start t s) ahead ≡ messages t.names t.lengths.part t.ends (course_of s) ahead.readings (published t.lengths s.place.end ahead.input))
@@ -20,6 +21,6 @@ is_inside b = not (b == 10)
 abbrev pub has_no_end : List ℕ → Bool
 has_no_end line = list_all is_inside line
 
--- what says anything is one line: LF stands at its end alone
+-- an answer is one line: it has its only LF at its end
 abbrev pub AreLines : Type 0
 AreLines = (line : List ℕ) → (accepts line ≡ true → has_no_end line ≡ true) × (refuses line ≡ true → has_no_end line ≡ true)

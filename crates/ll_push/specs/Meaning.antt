@@ -1,4 +1,4 @@
--- Targets, as contracts see them.
+-- The value of a target, which contracts speak of.
 use Rattle.ll_announce.specs.Meaning.{named}
 use Rattle.ll_push.specs.Publishing.{TargetValue}
 use Rattle.ll_push.specs.declared.target.Target.{Target}

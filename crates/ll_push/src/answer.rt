@@ -1,4 +1,4 @@
-//! The lines that an origin answers.
+//! Reads the lines that an origin answers.
 ghost use Rattle.std.specs.Prelude.{◌≡◌, ◌<◌, ◌≤◌, IfErr, IfOk, MatchOption, MatchResult, None, OnOk, Some, length, take};
 ghost use Rattle.std.specs.Char.{is_ascii_alphabetic};
 ghost use Rattle.std.specs.List.{list_all};
@@ -12,28 +12,28 @@ use ll_device::Link;
 use std::alloc::{AllocError, Global};
 use std::str;
 
-/// The longest answer, in bytes, with its end.
+/// The most bytes of an answer, with its end.
 const LIMIT: usize = 128;
 
-/// What an origin answers.
+/// The answer of an origin.
 #[derive(Drop)]
 pub(crate) enum Answer {
-    /// The message is accepted.
+    /// The message was accepted.
     Accepted,
-    /// The rendition stands there.
+    /// Where the rendition stands.
     Standing(Standing),
-    /// What was sent is refused: the line that says so, without its end.
+    /// The line that refuses what was sent, without its end.
     Refused(Text),
 }
 
 /// Why there is no answer.
 #[derive(Clone, Copy, Debug, PartialEq, Eq)]
 pub(crate) enum NoAnswer {
-    /// The connection was lost before its end.
+    /// The connection was lost before the answer's end.
     Lost,
-    /// What came is none.
+    /// What came isn't an answer.
     Bad,
-    /// No memory was found.
+    /// Out of memory.
     Memory,
 }
 
@@ -48,7 +48,8 @@ impl From<AllocError> for NoAnswer {
     }
 }
 
-/// Reads the line that answers what was sent. Bytes that come after its end in the same read count as its own, so that it is no answer.
+/// Reads the line that answers what was sent. Bytes that come after its end in the same read count as its own, so that it isn't an
+/// answer.
 pub(crate) fn read_answer<P: Link>(alloc: Global, link: &mut P) -> Result<Answer, NoAnswer>
     ensures read { IsAnswered (link_value P.written P.inward P.failures link.old) (link_value P.written P.inward P.failures link.new) result }
     ensures unwritten { P.written link.new ≡ P.written link.old }
@@ -64,7 +65,7 @@ pub(crate) fn read_answer<P: Link>(alloc: Global, link: &mut P) -> Result<Answer
     Err(NoAnswer::Bad)
 }
 
-/// Reads some more of an answer into `buf`, and returns how many bytes came. The connection is lost if it has ended, or the read fails.
+/// Reads some more of an answer into `buf`, and returns how many bytes came. The connection is lost if it has ended, or if the read fails.
 fn read_some<P: Link>(link: &mut P, buf: &mut [u8]) -> Result<usize, NoAnswer>
     requires { 0 < length buf.old }
     ensures count { IfOk result (λ n. (0 < n) × (n ≤ length buf.new)) }
@@ -80,7 +81,7 @@ fn read_some<P: Link>(link: &mut P, buf: &mut [u8]) -> Result<usize, NoAnswer>
     }
 }
 
-/// What a line without its end answers.
+/// Parses the answer `line`, which is without its end.
 fn answer_of(alloc: Global, line: &[u8]) -> Result<Answer, NoAnswer>
     ensures said { MatchResult result (spec.IsSaid line.now) (spec.IsUnsaid line.now) }
 {
@@ -98,7 +99,7 @@ fn answer_of(alloc: Global, line: &[u8]) -> Result<Answer, NoAnswer>
     }
 }
 
-/// Whether a line accepts: `ok` and a number.
+/// Returns whether `line` accepts: it is `ok` and a number.
 fn accepts(line: &str) -> bool
     ensures { result ≡ spec.accepts line.now }
 {
@@ -108,7 +109,7 @@ fn accepts(line: &str) -> bool
     }
 }
 
-/// Whether a line refuses: `no`, a number and a name of letters.
+/// Returns whether `line` refuses: it is `no`, a number and a name of letters.
 fn refuses(line: &str) -> bool
     ensures { result ≡ spec.refuses line.now }
 {
@@ -118,7 +119,7 @@ fn refuses(line: &str) -> bool
     }
 }
 
-/// Whether a text is a number and a name of letters.
+/// Returns whether `text` is a number and a name of letters.
 fn is_reason(text: &str) -> bool
     ensures { result ≡ spec.is_reason text.now }
 {
@@ -128,21 +129,21 @@ fn is_reason(text: &str) -> bool
     }
 }
 
-/// What stands before the first space and what stands after it, where there is one.
+/// Returns what stands before the first space and what stands after it, or `None` if there is no space.
 fn halves(text: &str) -> Option<(&str, &str)>
     ensures { MatchOption result (spec.halves text.now ≡ None) (λ p. spec.halves text.now ≡ Some (p.0.now, p.1.now)) }
 {
     text.split_once(' ')
 }
 
-/// Whether a text is one or more letters.
+/// Returns whether `text` is one or more letters.
 fn is_word(text: &str) -> bool
     ensures { result ≡ spec.is_word text.now }
 {
     !text.is_empty() && all_letters(text)
 }
 
-/// Whether a text has only letters, as the empty one.
+/// Returns whether `text` has only letters, as the empty one does.
 fn all_letters(text: &str) -> bool
     ensures { result ≡ list_all is_ascii_alphabetic text.now }
 {

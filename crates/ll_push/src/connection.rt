@@ -1,4 +1,4 @@
-//! What is sent on a connection, and what is answered.
+//! Sends a question or a message on a connection, and reads its answer.
 ghost use Rattle.std.specs.Prelude.{◌≡◌, IfErr, IfOk, IsErrOf, OnErr, false, true};
 ghost use Rattle.std.specs.Io.KnownBytes.{Appends};
 ghost use Rattle.ll_announce.specs.Meaning.{named};
@@ -16,7 +16,7 @@ use ll_attr::Text;
 use ll_device::{Link, write_all};
 use std::alloc::Global;
 
-/// What became of a text that was sent.
+/// The result of sending a text.
 #[derive(Drop)]
 enum Sent {
     Answered(Answer),
@@ -24,28 +24,28 @@ enum Sent {
     Lost,
 }
 
-/// What became of a message.
+/// The result of sending a message.
 #[derive(Drop)]
 pub(crate) enum Delivery {
-    /// The origin has accepted it.
+    /// The origin accepted it.
     Accepted,
-    /// The origin refuses it: its answer, without its end.
+    /// The origin refused it with this line, which is without its end.
     Refused(Text),
     /// The connection was lost before it was sent, amid it, or before its answer.
     Lost,
 }
 
-/// What became of the question where the rendition stands.
+/// The result of asking where the rendition stands.
 #[derive(Drop)]
 pub(crate) enum Asked {
     Standing(Standing),
-    /// The origin refuses it: its answer, without its end.
+    /// The origin refused it with this line, which is without its end.
     Refused(Text),
     /// The connection was lost before it was sent, amid it, or before its answer.
     Lost,
 }
 
-/// Asks where the rendition of these `names` stands.
+/// Asks where the rendition stands that `names` names.
 pub(crate) fn ask<P: Link>(
     alloc: Global,
     names: &Names<'_>,
@@ -86,7 +86,7 @@ pub(crate) fn deliver<P: Link>(
     }
 }
 
-/// Sends `text`, unless the other end is gone, and reads its answer.
+/// Sends `text`, unless the peer has hung up, and reads its answer.
 fn exchange<P: Link>(alloc: Global, link: &mut P, text: &[u8]) -> Result<Sent, PushFault>
     ensures sent { IfOk result (IsSent (link_value P.written P.inward P.failures link.old) (link_value P.written P.inward P.failures link.new) text.now) }
     ensures own { IfErr result IsOwn }
@@ -104,7 +104,7 @@ fn exchange<P: Link>(alloc: Global, link: &mut P, text: &[u8]) -> Result<Sent, P
     }
 }
 
-/// Sends `text`, and returns whether it was sent. Nothing is sent if the other end is gone.
+/// Sends `text`, unless the peer has hung up, and returns whether all of it was sent.
 fn send<P: Link>(link: &mut P, text: &[u8]) -> bool
     ensures sent { result ≡ true → Appends (P.written link.old) (P.written link.new) text.now }
     ensures unread { result ≡ true → P.inward link.new ≡ P.inward link.old }

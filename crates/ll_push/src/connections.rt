@@ -1,4 +1,4 @@
-//! An encoder's bytes, published on as many connections as it takes.
+//! Publishes an encoder's bytes on as many connections as it takes.
 ghost use Rattle.std.specs.Prelude.{◌≡◌, ◌≢◌, ◌⊎◌, ◌+◌, ◌<◌, ◌≤◌, ℕ, None, Some, IfErr, IfOk, IsErrOf, MatchResult, OnOk};
 ghost use Rattle.ll_push.specs.Answers.{EndsByAnswer, StepsByAnswer};
 ghost use Rattle.ll_push.specs.Connecting.{HasMoved, IsBroken, IsConnection, IsEndless, IsPlaced, IsPlacedSo};
@@ -25,19 +25,21 @@ use std::marker::Model;
 /// How publishing ended.
 #[derive(Drop)]
 pub enum Ending {
-    /// All is published, and the origin has accepted it.
+    /// The origin has accepted everything.
     Whole,
-    /// The origin refuses what was sent last: its answer, without its end.
+    /// The origin refused what was sent last, with this line, which is without its end.
     Refused(Text),
 }
 
-/// Publishes what an encoder writes, as `target` says, on the connections that `origin` gives. On each one the origin is asked first where the rendition stands; the first time
-/// all begins there, and later it goes on there. If a connection is lost, the next one is taken, until `origin` gives none or more than `tries` in a row had nothing accepted.
+/// Publishes what an encoder writes, which is read from `source`, as `target` says, on the connections of `origin`. Asks on each one first
+/// where the rendition stands: on the first connection publishing begins there, on each later one it goes on there. If a connection is
+/// lost, takes the next one, until `origin` has no more or more than `tries` in a row had nothing accepted.
 ///
 /// # Errors
 ///
-/// `Input` if the encoder's bytes are refused, once all before that was accepted; `Read`; `Clock`; `Connect` if there are no more connections; `Elsewhere` if the rendition stands where
-/// nothing that was sent leads; `BadAnswer`; `Memory`; `Endless` after 2^64 - 1 reads, messages or connections.
+/// `Input` if the encoder's bytes are refused, once all before that was accepted; `Read` and `Clock` if `source` or `clock` fails; `Connect`
+/// if no connection is left, or too many in a row had nothing accepted; `Elsewhere` if the rendition stands where nothing that was sent
+/// leads; `BadAnswer` if what came isn't an answer to what was sent; `Memory`; `Endless` after 2^64 - 1 reads, messages or connections.
 pub fn push<R: Reader, C: Calendar, S: Source, W: Watch>(
     alloc: Global,
     target: &Target<'_>,
@@ -80,7 +82,7 @@ pub fn push<R: Reader, C: Calendar, S: Source, W: Watch>(
     Err(PushFault::Endless)
 }
 
-/// Returns how many connections in a row had nothing accepted, after one more of which `accepted` says whether it had something; `idle` had nothing before it.
+/// Returns how many connections in a row had nothing accepted: `idle` before the last one, which had something if `accepted`.
 fn idle_after(accepted: bool, idle: u64) -> u64
     requires { idle < most }
     ensures { result ≡ spec.idle_after accepted idle }
@@ -88,7 +90,7 @@ fn idle_after(accepted: bool, idle: u64) -> u64
     if accepted { 0 } else { idle + 1 }
 }
 
-/// What was published so far, if anything was.
+/// The publication, once a rendition's standing is known.
 #[derive(Drop)]
 struct Publisher {
     publication: Option<Publication>,
@@ -142,7 +144,7 @@ impl Publisher {
         Ok(step)
     }
 
-    /// Goes on where the rendition stands.
+    /// Begins or goes on where the rendition stands.
     ///
     /// # Errors
     ///
@@ -161,7 +163,7 @@ impl Publisher {
     }
 }
 
-/// Returns what is to be sent if the rendition stands at `standing`; `before` is what was to be sent so far, if anything was.
+/// Returns the publication that goes on at `standing`, where the rendition stands: `before`, or a new one if there is none.
 ///
 /// # Errors
 ///

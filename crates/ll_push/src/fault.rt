@@ -1,30 +1,31 @@
-use ll_mp4::Fault;
+//! Why publishing an encoder's bytes fails, with the names that an operator reads.
+use ll_mp4::StreamFault;
 use std::alloc::AllocError;
 use std::fmt;
 
-/// Why an encoder's bytes aren't published, or not all of them.
+/// Why not all of an encoder's bytes are published.
 #[derive(Clone, Copy, Debug, PartialEq, Eq)]
 pub enum PushFault {
     /// The encoder's bytes are refused.
-    Input(Fault),
-    /// The encoder's bytes could not be read.
+    Input(StreamFault),
+    /// The encoder's bytes couldn't be read.
     Read,
-    /// The clock could not be read.
+    /// The clock couldn't be read.
     Clock,
-    /// No connection was made.
+    /// No connection is left, or too many in a row had nothing accepted.
     Connect,
-    /// The rendition stands where nothing that was sent has led to: another one publishes there, or the origin has forgotten it.
+    /// The rendition stands where nothing that was sent leads: someone else publishes it too, or the origin has forgotten it.
     Elsewhere,
-    /// An answer that is none.
+    /// What came isn't an answer to what was sent.
     BadAnswer,
-    /// No memory was found.
+    /// Out of memory.
     Memory,
-    /// 2^64 reads, messages or connections, and no end.
+    /// There were 2^64 - 1 reads, messages or connections, and no end.
     Endless,
 }
 
 impl PushFault {
-    /// Its name.
+    /// Returns its name.
     fn name(self) -> &'static str {
         match self {
             PushFault::Input(fault) => input_name(fault),
@@ -39,19 +40,19 @@ impl PushFault {
     }
 }
 
-/// The name of what is wrong with an encoder's bytes, without the type of box to blame.
-fn input_name(fault: Fault) -> &'static str {
+/// Returns the name of a fault of the encoder's bytes, without the type of box to blame.
+fn input_name(fault: StreamFault) -> &'static str {
     match fault {
-        Fault::BadBox => "BadBox",
-        Fault::TooLarge => "TooLarge",
-        Fault::NoMoov => "NoMoov",
-        Fault::Missing(_) => "Missing",
-        Fault::Several(_) => "Several",
-        Fault::NoTimeScale => "NoTimeScale",
-        Fault::OtherTrack => "OtherTrack",
-        Fault::TooLong => "TooLong",
-        Fault::Cut => "Cut",
-        Fault::Memory => "Memory",
+        StreamFault::BadBox => "BadBox",
+        StreamFault::TooLarge => "TooLarge",
+        StreamFault::NoMoov => "NoMoov",
+        StreamFault::Missing(_) => "Missing",
+        StreamFault::Several(_) => "Several",
+        StreamFault::NoTimeScale => "NoTimeScale",
+        StreamFault::OtherTrack => "OtherTrack",
+        StreamFault::TooLong => "TooLong",
+        StreamFault::Cut => "Cut",
+        StreamFault::Memory => "Memory",
     }
 }
 
@@ -59,7 +60,10 @@ impl fmt::Display for PushFault {
     fn fmt<W: fmt::Write>(&self, f: &mut fmt::Formatter<W>) -> fmt::Result {
         f.write_str(self.name())?;
         match self {
-            PushFault::Input(Fault::Missing(kind) | Fault::Several(kind)) => write!(f, " {kind}"),
+            PushFault::Input(StreamFault::Missing(kind) | StreamFault::Several(kind)) => write!(
+                f,
+                " {kind}"
+            ),
             _ => Ok(()),
         }
     }
@@ -76,16 +80,16 @@ impl From<AllocError> for PushFault {
     }
 }
 
-impl From<Fault> for PushFault {
+impl From<StreamFault> for PushFault {
     ghost use Rattle.std.specs.Prelude.{◌≡◌};
     ghost use Rattle.ll_push.specs.Faults.{of_input};
 
     ghost from_gives = { λ fault push. push ≡ of_input fault };
 
-    /// Out of memory is told as such.
-    fn from(fault: Fault) -> PushFault {
+    /// Converts a fault of the encoder's bytes; `Memory` stays `Memory`.
+    fn from(fault: StreamFault) -> PushFault {
         match fault {
-            Fault::Memory => PushFault::Memory,
+            StreamFault::Memory => PushFault::Memory,
             other => PushFault::Input(other),
         }
     }

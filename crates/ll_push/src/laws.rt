@@ -1,12 +1,14 @@
-//! The laws of publications and of answers, the contracts of empty functions.
+//! The laws of publications and of answers, each the contract of an empty function.
 ghost use Rattle.ll_push.specs.Laws.{AreLines, FromTheStart};
 
-/// Says that what is to be sent before anything was read are the messages of what is published of all the encoder's bytes, and that the fault that ends them is theirs.
+/// States that at the start the messages to be sent are those of the pieces of all the encoder's bytes, and that the fault that ends
+/// them is that of these bytes.
 pub fn publication_law()
     ensures { FromTheStart }
 {}
 
-/// Says that an answer is one line: one that accepts or refuses has no LF but at its end. So bytes after its end, or an LF inside, make what came no answer.
+/// States that an answer is one line: one that accepts or refuses has its only LF at its end. So bytes with an LF inside, or with more
+/// after it, aren't an answer.
 pub fn answer_law()
     ensures { AreLines }
 {}

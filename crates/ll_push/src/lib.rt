@@ -1,4 +1,4 @@
-//! Publishing what an encoder writes, piece by piece, on connections to an origin.
+//! Publishes what an encoder writes, piece by piece, on connections to an origin.
 #![tactic(auto)]
 
 mod answer;

@@ -1,7 +1,7 @@
-//! An encoder's bytes, published on one connection as far as it goes.
+//! Publishes an encoder's bytes on one connection, as far as that goes.
 ghost use Rattle.std.specs.Prelude.{◌≡◌, ◌≢◌, ◌⊎◌, ◌+◌, ◌<◌, ◌≤◌, ℕ, List, Option, Some, None, IfErr, IfOk, IsErrOf, MatchOption, OnErr, OnOk, false, true};
 ghost use Rattle.ll_device.specs.Written.{AppendsPrefix};
-ghost use Rattle.ll_mp4.specs.declared.fault.Fault.{Fault};
+ghost use Rattle.ll_mp4.specs.declared.fault.StreamFault.{StreamFault};
 ghost use Rattle.ll_parts.specs.Stream.{advanced_cutter};
 ghost use Rattle.ll_push.specs.Answers.{StepsByAnswer};
 ghost use Rattle.ll_push.specs.Connecting.{HasFailed, IsElsewhere, IsResumed};
@@ -23,29 +23,29 @@ use ll_device::{Link, Reader};
 use ll_parts::{Cutter, Piece};
 use std::alloc::{AllocError, Global};
 
-/// How many bytes of an encoder a read takes at most.
+/// The most bytes of an encoder that one read takes.
 const PIECE: usize = 65_536;
 
-/// What an encoder wrote, as far as it isn't known that the origin has it.
+/// The part of an encoder's output that the origin isn't known to have.
 #[derive(Drop)]
 pub(crate) struct Publication {
-    /// The place of the rendition's next part, with all that the origin has accepted.
+    /// The place of the rendition's next part after all that the origin is known to have accepted.
     pub(crate) place: Place,
-    /// Where the rendition goes on after the messages that are kept.
+    /// The course of the rendition after the messages in `kept`.
     pub(crate) course: Course,
-    /// Messages that the origin hasn't accepted, or of which that isn't known.
+    /// The messages that were made already, and that the origin isn't known to have accepted.
     pub(crate) kept: Messages,
     pub(crate) cutter: Cutter,
     /// Whether the rendition's end is still to be sent after the last piece.
     pub(crate) ends: bool,
 }
 
-/// How far a connection went.
+/// How far publishing went on a connection.
 #[derive(Drop)]
 pub(crate) enum Step {
-    /// All is published, and the origin has accepted it.
+    /// The origin has accepted everything.
     Whole,
-    /// The origin refuses what was sent last: its answer, without its end.
+    /// The origin refused what was sent last, with this line, which is without its end.
     Refused(Text),
     /// The connection was lost.
     Gone {
@@ -55,7 +55,7 @@ pub(crate) enum Step {
 }
 
 impl Publication {
-    /// Returns one that has read nothing so far, of a rendition that stands at `standing`.
+    /// Returns the publication of a stream of which nothing was read yet, in a rendition that stands at `standing`.
     pub(crate) fn new(alloc: Global, target: &Target<'_>, standing: &Standing) -> Publication
         ensures { result ≡ at_start (targeted target.now) standing.now }
     {
@@ -68,8 +68,8 @@ impl Publication {
         }
     }
 
-    /// Goes on where the rendition's next part has this `place`: the message whose answer didn't come was accepted, if it leads there. Returns none if nothing that was sent
-    /// leads there.
+    /// Goes on at `place`, where the rendition's next part stands: if the first message that is kept leads there, it was accepted, though
+    /// its answer didn't come. Returns `None` if nothing that was sent leads there.
     pub(crate) fn resume(mut self, place: Place) -> Option<Publication>
         ensures { MatchOption result (IsElsewhere self place) (IsResumed self place) }
     {
@@ -84,7 +84,7 @@ impl Publication {
         Some(self)
     }
 
-    /// Sends what is to be sent and reads the answers, until all is published, the origin refuses some of it, or the connection is lost.
+    /// Sends message after message and reads the answers, until everything is published, the origin refuses one, or the connection is lost.
     pub(crate) fn publish<R: Reader, C: Calendar, P: Link, W: Watch>(
         &mut self,
         alloc: Global,
@@ -98,7 +98,7 @@ impl Publication {
             → IfOk result (IsStep (targeted target.now) self.old ahead (link_value P.written P.inward P.failures link.old) self.new (told_ahead (R.left source.new) (C.coming clock.new)) (link_value P.written P.inward P.failures link.new)) }
         ensures cut { (ahead : Ahead) → told_ahead (R.left source.old) (C.coming clock.old) ≡ Some ahead
             → OnErr result (AppendsPrefix (P.written link.old) (P.written link.new) (text_of (messages_to_come (targeted target.now) self.old ahead))) }
-        ensures refused { (ahead : Ahead) (fault : Fault) → told_ahead (R.left source.old) (C.coming clock.old) ≡ Some ahead → IsErrOf result (PushFault.Input fault)
+        ensures refused { (ahead : Ahead) (fault : StreamFault) → told_ahead (R.left source.old) (C.coming clock.old) ≡ Some ahead → IsErrOf result (PushFault.Input fault)
             → AreExchanged (messages_to_come (targeted target.now) self.old ahead) (link_value P.written P.inward P.failures link.old) (link_value P.written P.inward P.failures link.new) × (fault_to_come self.old ahead ≡ Some fault) }
         ensures unanswered { (ahead : Ahead) → told_ahead (R.left source.old) (C.coming clock.old) ≡ Some ahead → IsErrOf result PushFault.BadAnswer
             → HasFailed (targeted target.now) self.old ahead (link_value P.written P.inward P.failures link.old) (link_value P.written P.inward P.failures link.new) }
@@ -131,8 +131,8 @@ impl Publication {
         Err(PushFault::Endless)
     }
 
-    /// Takes the next message: the first that is kept, else that of the encoder's next piece, or the end after the last one, if it is to be sent. Returns none if all is
-    /// published.
+    /// Takes the next message: the first that is kept; else the first of the encoder's next piece; after the last piece the rendition's end,
+    /// if that is to be sent. Returns `None` if none is left.
     fn message<R: Reader, C: Calendar>(
         &mut self,
         alloc: Global,
@@ -142,7 +142,7 @@ impl Publication {
     ) -> Result<Option<Message>, PushFault>
         ensures next { (ahead : Ahead) → told_ahead (R.left source.old) (C.coming clock.old) ≡ Some ahead
             → IfOk result (IsTaken (targeted target.now) self.old ahead self.new (told_ahead (R.left source.new) (C.coming clock.new))) }
-        ensures refused { (ahead : Ahead) (fault : Fault) → told_ahead (R.left source.old) (C.coming clock.old) ≡ Some ahead → IsErrOf result (PushFault.Input fault)
+        ensures refused { (ahead : Ahead) (fault : StreamFault) → told_ahead (R.left source.old) (C.coming clock.old) ≡ Some ahead → IsErrOf result (PushFault.Input fault)
             → IsNothing (targeted target.now) self.old ahead (Some fault) }
         ensures read_failed { IsErrOf result PushFault.Read → R.failures source.old < R.failures source.new }
         ensures clock_failed { IsErrOf result PushFault.Clock → C.failures clock.old < C.failures clock.new }
@@ -163,7 +163,7 @@ impl Publication {
         Err(PushFault::Endless)
     }
 
-    /// Takes the next message that needs no more of the encoder's bytes, if there is one.
+    /// Takes the next message, or returns `None` if more of the encoder's bytes are needed for it.
     fn ready<C: Calendar>(
         &mut self,
         alloc: Global,
@@ -172,7 +172,7 @@ impl Publication {
     ) -> Result<Option<Message>, PushFault>
         ensures next { (left : Option (List ℕ)) (ahead : Ahead) → told_ahead left (C.coming clock.old) ≡ Some ahead
             → IfOk result (IsReadily (targeted target.now) self.old ahead self.new (told_ahead left (C.coming clock.new))) }
-        ensures refused { (ahead : Ahead) (fault : Fault) → IsErrOf result (PushFault.Input fault) → IsNothing (targeted target.now) self.old ahead (Some fault) }
+        ensures refused { (ahead : Ahead) (fault : StreamFault) → IsErrOf result (PushFault.Input fault) → IsNothing (targeted target.now) self.old ahead (Some fault) }
         ensures clock_failed { IsErrOf result PushFault.Clock → C.failures clock.old < C.failures clock.new }
         ensures steady { OnOk result (C.failures clock.new ≡ C.failures clock.old) }
         ensures own { IfErr result IsOfBytes }
@@ -190,7 +190,7 @@ impl Publication {
         Ok(Some(message))
     }
 
-    /// Adds the messages of `piece` to those that are kept.
+    /// Adds the messages of `piece` to those that are kept. Reads the clock if a movie begins.
     fn announce<C: Calendar>(
         &mut self,
         alloc: Global,
@@ -215,7 +215,7 @@ impl Publication {
         Ok(())
     }
 
-    /// Takes the message that the rendition ends, if it is to be sent.
+    /// Takes the message that ends the rendition, or returns `None` if it isn't to be sent.
     fn last(&mut self, alloc: Global, target: &Target<'_>) -> Result<Option<Message>, AllocError>
         ensures { IfOk result (λ last. IsLast (targeted target.now) self.old self.new last) }
     {
@@ -236,7 +236,7 @@ fn is_same(place: Place, other: Place) -> bool
     place == other
 }
 
-/// Returns the first piece, if all of it was read.
+/// Takes the first piece, or returns `None` if not all of it was read.
 fn front_piece(cutter: &mut Cutter) -> Result<Option<Piece>, PushFault>
     ensures piece { IfOk result (IsFront cutter.old cutter.new) }
     ensures fault { IfErr result (IsPieceFault cutter.old) }
@@ -251,7 +251,7 @@ fn front_piece(cutter: &mut Cutter) -> Result<Option<Piece>, PushFault>
     }
 }
 
-/// Takes one more unit of what was read, and returns whether one was there.
+/// Takes one more unit of the bytes that were read, and returns whether there was one.
 fn take_unit(cutter: &mut Cutter) -> Result<bool, PushFault>
     ensures taken { IfOk result (λ taken. (taken, cutter.new) ≡ advanced_cutter cutter.old) }
     ensures going { OnOk result (cutter.old.progress.fault ≡ None) }
@@ -263,7 +263,7 @@ fn take_unit(cutter: &mut Cutter) -> Result<bool, PushFault>
     Ok(cutter.advance()?)
 }
 
-/// Reads once more, and has `cutter` take what came, or the end.
+/// Reads once, and passes `cutter` the bytes that came, or the end.
 fn read_more<R: Reader>(source: &mut R, cutter: &mut Cutter) -> Result<(), PushFault>
     ensures once { R.reads source.new ≡ R.reads source.old + 1 }
     ensures fed { OnOk result (IsFed cutter.old (R.left source.old) cutter.new (R.left source.new)) }

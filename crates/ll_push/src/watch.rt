@@ -1,13 +1,14 @@
+//! An observer of publishing.
 use ll_announce::{Said, Standing};
 
-/// Who watches how publishing goes on.
+/// An observer of publishing, which is called at each step.
 pub trait Watch {
-    /// Tells that a connection goes on where the rendition stands.
+    /// Is called when publishing begins or goes on at `standing` on a connection.
     fn stands(&mut self, standing: &Standing);
 
-    /// Tells that the origin has accepted a message of `bytes` bytes that announces this.
+    /// Is called when the origin has accepted a message of `bytes` bytes that announces `said`.
     fn accepted(&mut self, said: Said, bytes: usize);
 
-    /// Tells that the connection is lost, and another one is tried.
+    /// Is called when a connection is lost and another one is tried.
     fn lost(&mut self);
 }

@@ -1,4 +1,4 @@
--- The entries of a map by id, as the lists that they stand for: what is found, put last or taken out of one is so of the other.
+-- The entries of a map by id, as the lists that they stand for: finding, adding last and removing agree on both.
 use Rattle.std.proofs.Common.{◌≡◌, ℕ, ◌||◌, ◌++◌, Bool, true, false, not, cond, filter, List, [], ◌∷◌, Option, Some, None, is_some, map, refl, ap, ap₂, sym, subst, ◌∙◌, bytes_eq, string_bytes, nat_le, ◌+◌, Bor}
 use Rattle.std.proofs.lemmas.List.{map-append}
 use Rattle.std.specs.declared.string.String.{String}
@@ -36,7 +36,7 @@ module _ {A V : Type 0} (id : List ℕ) where
   kept_by true x o more xs e rest = absurd (cc)
   kept_by false x o more xs e rest = ap (λ ys. x ∷ ys) (rest e)
 
-  -- where the id is absent, all are of other ids
+  -- if the id is absent, all are of other ids
   all_others : (es : List (String A × V)) → lookup (has_id id) es ≡ None → filter (has_other id) es ≡ es
   all_others [] e = refl
   all_others (x ∷ es) e = kept_by (has_id id x.0) x (lookup (has_id id) es) (filter (has_other id) es) es e (all_others es)
@@ -48,7 +48,7 @@ module _ {A V : Type 0} (id : List ℕ) where
   removed_by false x es more here e test rest =
       ap (λ ys. x ∷ ys) (rest (subst (λ b. cond b (Some x.1) (lookup (has_id id) more) ≡ None) (sym test) e))
 
-  -- without the first of the id, where that leaves none
+  -- without the first of the id, if that leaves none
   pub removed : (es : List (String A × V)) → lookup (has_id id) (shift_remove_entry (has_id id) es) ≡ None → shift_remove_entry (has_id id) es ≡ filter (has_other id) es
   removed [] e = refl
   removed (x ∷ es) e = removed_by (has_id id x.0) x es (shift_remove_entry (has_id id) es) (all_others es) e refl (removed es)

@@ -68,7 +68,7 @@ order_more : (xs : List Listed) (x : Listed) → AreInOrder xs → AreBefore x.a
 order_more [] x h k = (tt, tt)
 order_more (y ∷ ys) x h k = (after_more y.added ys x h.0 k.0, order_more ys x h.1 k.1)
 
--- of what is told of a list of items
+-- of what is kept of a list of items
 
 pub record IsInOrder (t : Told) : Type 0 where
   pub listed : AreInOrder t.listed

@@ -1,4 +1,4 @@
--- What is told of a list of items with one more is a step from what is told of the list.
+-- What is kept of a list of items with one more is a step from what is kept of the list.
 use Rattle.std.proofs.Common.{◌≡◌, ℕ, ◌≤◌, ◌++◌, Bool, true, false, not, cond, List, [], ◌∷◌, filter, refl, ap, sym, subst, ◌∙◌, arith, bytes_eq, None}
 use Rattle.std.proofs.lemmas.Bool.Decides.{nat_tests}
 use Rattle.std.proofs.lemmas.List.Elements.{filter-append}
@@ -55,7 +55,7 @@ removed_now l now id rs =
     ∙ ap (λ b. filter (is_recent l now) (other_removals id rs) ++ cond b (r ∷ []) []) (sym (now_recent l now id))
     ∙ sym (filter-append (is_recent l now) (other_removals id rs) (r ∷ []))
 
--- what is told of date ranges
+-- what is kept of date ranges
 abbrev announced_of : Configuration → Told → Announced
 announced_of c t = record { limit = skip_limit c; listed = t.listed; recent = filter (is_recent (skip_limit c) t.end_time) t.removals }
 

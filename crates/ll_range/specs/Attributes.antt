@@ -1,4 +1,4 @@
--- Which attributes a date range may have (section 4.4.5.1 of draft-pantos-hls-rfc8216bis).
+-- The attributes and ids that a date range is allowed to have (section 4.4.5.1 of draft-pantos-hls-rfc8216bis).
 use Rattle.std.specs.Prelude.{ℕ, List, [], ◌∷◌, Bool, true, false, not, ◌&&◌, ◌||◌, ◌==◌, length, nat_eq, nat_le, bytes_eq, codes, if◌then◌else◌}
 use Rattle.std.specs.Char.{is_ascii_digit}
 use Rattle.std.specs.List.{list_all, list_any, starts_with}
@@ -12,7 +12,7 @@ use Rattle.ll_format.specs.Dates.{is_date_time}
 abbrev pub is_id_byte : ℕ → Bool
 is_id_byte b = not (b == 34 || b == 9 || b == 13 || b == 10)
 
--- one or more of these; ids are joined by tabs where removals are listed (section 4.4.5.2)
+-- one or more of these bytes; a tab isn't one, since tabs separate the ids in a list of removals (section 4.4.5.2)
 abbrev pub is_id : List ℕ → Bool
 is_id text = nat_le 1 (length text) && list_all is_id_byte text
 
@@ -28,22 +28,22 @@ seconds_of other = false
 abbrev pub is_seconds : List ℕ → Bool
 is_seconds text = seconds_of (pieces_at 46 text)
 
--- START-DATE and END-DATE
+-- whether this is a value of START-DATE or END-DATE
 abbrev pub is_date_value : AttrValue → Bool
 is_date_value (Quoted text) = is_date_time text
 is_date_value (Bare text) = false
 
--- CLASS
+-- whether this is a value of CLASS
 abbrev pub is_class_value : AttrValue → Bool
 is_class_value (Quoted text) = true
 is_class_value (Bare text) = false
 
--- DURATION and PLANNED-DURATION
+-- whether this is a value of DURATION or PLANNED-DURATION
 abbrev pub is_seconds_value : AttrValue → Bool
 is_seconds_value (Quoted text) = false
 is_seconds_value (Bare text) = is_seconds text
 
--- whether a date range may have an attribute of this name and value besides its ID
+-- whether a date range is allowed to have an attribute with this name and value beside its ID (rule 17)
 abbrev pub is_allowed : Attribute → Bool
 is_allowed a =
     if bytes_eq a.name (codes "START-DATE") || bytes_eq a.name (codes "END-DATE") then is_date_value a.value
@@ -51,6 +51,6 @@ is_allowed a =
     else if bytes_eq a.name (codes "DURATION") || bytes_eq a.name (codes "PLANNED-DURATION") then is_seconds_value a.value
     else starts_with nat_eq a.name (codes "X-")
 
--- each attribute is one of these, and one is START-DATE
+-- each attribute is allowed, and one is START-DATE
 abbrev pub are_allowed : List Attribute → Bool
 are_allowed attributes = list_all is_allowed attributes && list_any (λ a. bytes_eq a.name (codes "START-DATE")) attributes

@@ -1,4 +1,4 @@
--- What is kept of date ranges, and what one more change makes of it.
+-- How the code keeps date ranges, and what is kept after one more change.
 use Rattle.std.specs.Prelude.{ℕ, ◌++◌, List, [], ◌∷◌, string_bytes}
 use Rattle.std.specs.declared.string.String.{String}
 use Rattle.ll_attr.specs.Attributes.{spelling}
@@ -15,17 +15,17 @@ listed_at entry = record { id = string_bytes entry.0; attributes = entry.1.attri
 abbrev pub removal_at : {A : Type 0} → String A × ℕ → Removal
 removal_at entry = record { id = string_bytes entry.0; removed = entry.1 }
 
--- a date range of this id and these attributes is listed from this time on
+-- one more date range, added at this time
 abbrev pub with_range : ℕ → List ℕ → List Attribute → Announced → Announced
 with_range time id attributes a = record a { listed = a.listed ++ (record { id = id; attributes = spelling attributes; added = time }) ∷ [] }
 
--- the date range of this id is taken away at this time
+-- without the date range with this id, removed at this time
 abbrev pub without_range : ℕ → List ℕ → Announced → Announced
 without_range time id a = record a {
   listed = others id a.listed;
   recent = other_removals id a.recent ++ (record { id = id; removed = time }) ∷ [];
 }
 
--- what is left of removals once all parts last until now
+-- without the removals that are no longer recent now
 abbrev pub at_time : ℕ → Announced → Announced
 at_time now a = record a { recent = recent_at now a }

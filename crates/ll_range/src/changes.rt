@@ -1,4 +1,4 @@
-//! What adds date ranges and takes them away.
+//! Adding and removing date ranges. Everywhere `end` is the duration of all parts of the rendition so far, in microseconds.
 ghost use Rattle.std.specs.Prelude.{◌≡◌, ◌≢◌, ◌+◌, ◌++◌, ◌∷◌, [], List, ℕ, IfErr, MatchResult, OnOk, OnErr, IsErrOf, None, Some, false, filter, map, nat_le};
 ghost use Rattle.std.specs.Option.{option_map};
 ghost use Rattle.ll_item.specs.Items.{is_about_ranges};
@@ -19,7 +19,7 @@ use ll_attr::{AttrList, Text};
 use std::alloc::AllocError;
 
 impl Ranges {
-    /// Returns the rule by which `add` would refuse this date range.
+    /// Returns the first rule that refuses to add a date range with this `id` and these `attributes`.
     pub fn test_add(&self, end: u64, id: &str, attributes: &AttrList) -> Result<(), RangeFault>
         ensures { MatchResult result (λ u. add_refusal end id.now attributes.now self.now ≡ None) (λ f. add_refusal end id.now attributes.now self.now ≡ Some f) }
     {
@@ -32,7 +32,7 @@ impl Ranges {
         }
     }
 
-    /// Returns the rule by which `remove` would refuse this id.
+    /// Returns the rule that refuses to remove the date range with this `id`.
     pub fn test_remove(&self, id: &str) -> Result<(), RangeFault>
         ensures { MatchResult result (λ u. remove_refusal id.now self.now ≡ None) (λ f. remove_refusal id.now self.now ≡ Some f) }
     {
@@ -43,14 +43,14 @@ impl Ranges {
         }
     }
 
-    /// Whether a date range of this id is listed.
+    /// Returns whether a date range with this `id` is listed.
     fn is_listed(&self, id: &str) -> bool
         ensures { result ≡ is_listed id.now self.now }
     {
         self.listed.contains(id)
     }
 
-    /// Whether a date range of this id was removed recently.
+    /// Returns whether a date range with this `id` was removed recently.
     fn was_removed(&self, end: u64, id: &str) -> bool
         ensures { result ≡ was_removed end id.now self.now }
     {
@@ -60,8 +60,11 @@ impl Ranges {
         }
     }
 
-    /// Adds a date range when all parts of the rendition last `end` microseconds, or returns the first rule that refuses it, or
-    /// that memory ran out, and changes nothing then (section 4.4.5.1).
+    /// Adds a date range (section 4.4.5.1).
+    ///
+    /// # Errors
+    ///
+    /// `Refused` with the first rule that refuses it, else `Memory`. Nothing changes then.
     pub fn add(&mut self, end: u64, id: Text, attributes: AttrList) -> Result<(), RangeError>
         ensures accepted { (c : Configuration) (items : List Item) (rendition : ℕ) → self.old ≡ announced c items → end ≡ end_time items
             → OnOk result ((refusal c items (item.Range rendition id attributes) ≡ None)
@@ -81,8 +84,11 @@ impl Ranges {
         }
     }
 
-    /// Takes the date range of this `id` away when all parts of the rendition last `end` microseconds, or returns that none is
-    /// listed, or that memory ran out for what is kept of the removal, and changes nothing then (section 4.4.5.2).
+    /// Removes the date range with this `id` (section 4.4.5.2).
+    ///
+    /// # Errors
+    ///
+    /// `Refused` if none is listed, else `Memory`, as a removal is kept while it is recent. Nothing changes then.
     pub fn remove(&mut self, end: u64, id: &str) -> Result<(), RangeError>
         ensures accepted { (c : Configuration) (items : List Item) (rendition : ℕ) → self.old ≡ announced c items → end ≡ end_time items
             → OnOk result ((refusal c items (item.Unrange rendition id.now) ≡ None)
@@ -102,8 +108,7 @@ impl Ranges {
         }
     }
 
-    /// Adds a date range that `test_add` lets go, where all parts of the rendition last so long until now (microseconds). It
-    /// fails only where no memory is found, and changes nothing then.
+    /// Adds a date range that `test_add` lets through. If memory runs out, nothing changes.
     pub fn list(&mut self, end: u64, id: &str, attributes: &AttrList) -> Result<(), AllocError>
         requires { add_refusal end id.now attributes.now self.old ≡ None }
         ensures accepted { (c : Configuration) (items : List Item) (rendition : ℕ) → self.old ≡ announced c items → end ≡ end_time items
@@ -114,8 +119,7 @@ impl Ranges {
         Ok(())
     }
 
-    /// Takes a date range away that `test_remove` finds, where all parts of the rendition last so long until now
-    /// (microseconds). It fails only where no memory is found for what is kept of the removal, and changes nothing then.
+    /// Removes a date range that `test_remove` lets through. If memory runs out, nothing changes.
     pub fn unlist(&mut self, end: u64, id: &str) -> Result<(), AllocError>
         requires { remove_refusal id.now self.old ≡ None }
         ensures accepted { (c : Configuration) (items : List Item) (rendition : ℕ) → self.old ≡ announced c items → end ≡ end_time items
@@ -126,8 +130,7 @@ impl Ranges {
         Ok(())
     }
 
-    /// Forgets the removals that are no longer recent, where all parts of the rendition last so long until now
-    /// (microseconds). It takes no memory.
+    /// Drops the removals that are no longer recent.
     pub fn expire(&mut self, end: u64)
         ensures forgets { self.new ≡ at_time end self.old }
         ensures follows { (c : Configuration) (items : List Item) (i : Item) → self.old ≡ announced c items → is_about_ranges i ≡ false
@@ -136,7 +139,7 @@ impl Ranges {
         forget(&mut self.recent, self.limit, end);
     }
 
-    /// Lists a date range from now on.
+    /// Adds a date range whose `id` isn't listed.
     fn push(&mut self, end: u64, id: &str, attributes: &AttrList) -> Result<(), AllocError>
         requires { is_listed id.now self.old ≡ false }
         ensures ok { OnOk result (self.new ≡ with_range end id.now attributes.now self.old) }
@@ -149,7 +152,7 @@ impl Ranges {
         self.listed.put(id, added)
     }
 
-    /// Takes the date range of this id away.
+    /// Removes the date range with this `id`, and keeps the removal.
     fn take_away(&mut self, end: u64, id: &str) -> Result<(), AllocError>
         ensures ok { OnOk result (self.new ≡ without_range end id.now self.old) }
         ensures err { OnErr result (self.new ≡ self.old) }
@@ -161,7 +164,7 @@ impl Ranges {
     }
 }
 
-/// Notes a removal after the others, in the place of an earlier one of its id.
+/// Adds a removal after the others, and drops an earlier one of the same `id`.
 fn note(recent: &mut IndexMap<String, u64>, id: &str, removed: u64) -> Result<(), AllocError>
     ensures ok { OnOk result (map removal_at recent.new.entries ≡ other_removals id.now (map removal_at recent.old.entries)
         ++ (record { id = id.now; removed = removed }) ∷ []) }
@@ -177,14 +180,14 @@ fn note(recent: &mut IndexMap<String, u64>, id: &str, removed: u64) -> Result<()
     }
 }
 
-/// Whether a removal is recent, where all parts last until `end`.
+/// Returns whether at `end` a removal made at `removed` is recent, with the Skip Boundary `limit`. All are microseconds of parts.
 pub(crate) fn is_recent(limit: u64, end: u64, removed: u64) -> bool
     ensures { result ≡ nat_le end (removed + limit) }
 {
     end.saturating_sub(removed) <= limit
 }
 
-/// Forgets the removals that are no longer recent.
+/// Drops the removals that at `end` are no longer recent, with the Skip Boundary `limit` in microseconds.
 fn forget(recent: &mut IndexMap<String, u64>, limit: u64, end: u64)
     ensures { map removal_at recent.new.entries ≡ filter (spec.is_recent limit end) (map removal_at recent.old.entries) }
 {

@@ -1,7 +1,8 @@
+//! The law of the definitions of this crate.
 ghost use Rattle.ll_range.specs.Announced.{SkippedLaw};
 
-/// The date ranges that a delta update may skip are the first ones in order of adding, since no item is added before an earlier
-/// one (section 6.2.5.1).
+/// States that the date ranges that a delta update may skip are the first ones in order of adding (section 6.2.5.1). It does nothing
+/// when it runs.
 pub fn skipped_law()
     ensures { SkippedLaw }
 {}

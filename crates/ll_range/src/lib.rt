@@ -1,4 +1,4 @@
-//! The date ranges of one rendition: which playlists list, and which were taken away lately. Sections are those of
+//! The date ranges of one rendition: those that playlists list, and those that were removed recently. Sections are those of
 //! draft-pantos-hls-rfc8216bis.
 #![tactic(auto)]
 

@@ -1,4 +1,4 @@
-//! The date ranges that are listed. Copies share them, and a change of one copy shows in no other.
+//! The date ranges that are listed. Copies share them, and changing one copy changes no other.
 ghost use Rattle.std.specs.Prelude.{◌≡◌, ◌≤◌, ◌++◌, ◌∷◌, [], IfOk, MatchOption, OnErr, OnOk, Some, bytes_eq, false, length, slice_get};
 ghost use Rattle.std.specs.Arc.{arc_value};
 ghost use Rattle.std.specs.List.{list_any};
@@ -11,7 +11,7 @@ use std::alloc::{AllocError, Global};
 use std::marker::Model;
 use std::sync::Arc;
 
-/// What is kept of a date range beside its id.
+/// What is kept of a date range under its id.
 #[derive(Debug, Drop)]
 pub(crate) struct RangeEntry {
     pub(crate) attributes: Text,
@@ -58,7 +58,7 @@ impl Clone for RangeMap {
 }
 
 impl RangeMap {
-    /// Returns no date ranges. It takes no memory.
+    /// Returns no date ranges, which take no memory.
     fn new(alloc: Global) -> RangeMap
         ensures { result ≡ [] }
     {
@@ -67,7 +67,7 @@ impl RangeMap {
         }
     }
 
-    /// Returns one date range alone, which several may hold, or that memory ran out.
+    /// Returns one date range alone, which can be shared.
     fn of_one(alloc: Global, id: &str, entry: RangeEntry) -> Result<Arc<RangeMap>, AllocError>
         ensures { IfOk result (λ ranges. arc_value ranges ≡ (record { id = id.now; attributes = entry.attributes; added = entry.added }) ∷ []) }
     {
@@ -76,14 +76,14 @@ impl RangeMap {
         Ok(Arc::new(alloc, ranges)?)
     }
 
-    /// Returns how many date ranges there are.
+    /// Returns the number of date ranges.
     fn len(&self) -> usize
         ensures { result ≡ length self.now }
     {
         self.entries.len()
     }
 
-    /// Returns the date range at `place`, 0 being the first; `None` after the last.
+    /// Returns the date range at `place`, from 0, or `None` after the last.
     fn get(&self, place: usize) -> Option<DateRange<'_>>
         ensures { MatchOption result (length self.now ≤ place)
             (λ r. slice_get self.now place ≡ Some (record { id = r.id.now; attributes = r.attributes.now; added = r.added })) }
@@ -96,14 +96,14 @@ impl RangeMap {
         })
     }
 
-    /// Returns whether one of them has this `id`.
+    /// Returns whether a date range has this `id`.
     fn contains(&self, id: &str) -> bool
         ensures { result ≡ list_any (λ (range : Listed). bytes_eq id.now range.id) self.now }
     {
         self.entries.contains_key(id)
     }
 
-    /// Puts a date range after the others, or returns that memory ran out, and changes nothing then.
+    /// Adds a date range after the others. If memory runs out, nothing changes.
     fn put(&mut self, id: &str, entry: RangeEntry) -> Result<(), AllocError>
         requires { list_any (λ (range : Listed). bytes_eq id.now range.id) self.old ≡ false }
         ensures ok { OnOk result (self.new ≡ self.old ++ (record { id = id.now; attributes = entry.attributes; added = entry.added }) ∷ []) }
@@ -117,14 +117,14 @@ impl RangeMap {
         }
     }
 
-    /// Takes the date range of this `id` out. The others keep their order.
+    /// Removes the date range with this `id`. The others keep their order.
     fn take_out(&mut self, id: &str)
         ensures { self.new ≡ others id.now self.old }
     {
         self.entries.shift_remove(id);
     }
 
-    /// Returns a copy without the date range of this `id`, or that memory ran out.
+    /// Returns a copy without the date range with this `id`.
     fn without(&self, id: &str) -> Result<RangeMap, AllocError>
         ensures { IfOk result (λ left. left ≡ others id.now self.now) }
     {
@@ -134,12 +134,11 @@ impl RangeMap {
     }
 }
 
-/// The date ranges that are listed, in order of adding. All copies share one map of them; one that changes while others
-/// share it takes a map of its own first.
+/// The date ranges that are listed, in order of adding. All copies share one map, and a copy that changes gets a map of its own first.
 #[derive(Debug, Drop)]
 pub(crate) struct ListedRanges {
     alloc: Global,
-    /// `None` before the first date range, so that a list of none takes no memory.
+    /// The map, or `None` before the first date range, which takes no memory.
     shared: Option<Arc<RangeMap>>,
 }
 
@@ -155,7 +154,7 @@ impl Model for ListedRanges {
 }
 
 impl ListedRanges {
-    /// Returns no date ranges. It takes no memory.
+    /// Returns no date ranges, which take no memory.
     pub(crate) fn new(alloc: Global) -> ListedRanges
         ensures { result ≡ [] }
     {
@@ -165,7 +164,7 @@ impl ListedRanges {
         }
     }
 
-    /// Returns how many date ranges are listed.
+    /// Returns the number of date ranges that are listed.
     pub(crate) fn len(&self) -> usize
         ensures { result ≡ length self.now }
     {
@@ -175,7 +174,7 @@ impl ListedRanges {
         }
     }
 
-    /// Returns the date range at `place`, 0 being the first; `None` after the last.
+    /// Returns the date range at `place`, from 0, or `None` after the last.
     pub(crate) fn get(&self, place: usize) -> Option<DateRange<'_>>
         ensures { MatchOption result (length self.now ≤ place)
             (λ r. slice_get self.now place ≡ Some (record { id = r.id.now; attributes = r.attributes.now; added = r.added })) }
@@ -186,7 +185,7 @@ impl ListedRanges {
         }
     }
 
-    /// Returns whether a date range of this `id` is listed.
+    /// Returns whether a date range with this `id` is listed.
     pub(crate) fn contains(&self, id: &str) -> bool
         ensures { result ≡ list_any (λ (range : Listed). bytes_eq id.now range.id) self.now }
     {
@@ -196,7 +195,7 @@ impl ListedRanges {
         }
     }
 
-    /// Puts a date range after the others, or returns that memory ran out, and changes nothing then.
+    /// Adds a date range after the others. If memory runs out, nothing changes.
     pub(crate) fn put(&mut self, id: &str, entry: RangeEntry) -> Result<(), AllocError>
         requires { list_any (λ (range : Listed). bytes_eq id.now range.id) self.old ≡ false }
         ensures ok { OnOk result (self.new ≡ self.old ++ (record { id = id.now; attributes = entry.attributes; added = entry.added }) ∷ []) }
@@ -209,7 +208,7 @@ impl ListedRanges {
         Ok(())
     }
 
-    /// Returns the list without the date range of this `id`, or that memory ran out. It shares nothing with this one.
+    /// Returns the list without the date range with this `id`. It shares nothing with this one.
     pub(crate) fn without(&self, id: &str) -> Result<ListedRanges, AllocError>
         ensures { IfOk result (λ left. left ≡ others id.now self.now) }
     {
@@ -222,7 +221,7 @@ impl ListedRanges {
         }
     }
 
-    /// Returns another holder of the same list, which shares it, or that memory ran out.
+    /// Returns another handle of the same list.
     pub(crate) fn again(&self) -> Result<ListedRanges, AllocError>
         ensures { IfOk result (λ listed. listed ≡ self.now) }
     {

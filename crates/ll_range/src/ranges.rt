@@ -1,3 +1,4 @@
+//! What is kept of the date ranges of one rendition. Everywhere `end` is the duration of all parts of the rendition so far, in microseconds.
 ghost use Rattle.std.specs.Prelude.{◌≡◌, ◌≤◌, [], Some, IfOk, MatchOption, length, map, slice_get};
 ghost use Rattle.ll_range.specs.Announced.{announced, recent_at, skipped_at};
 
@@ -10,28 +11,28 @@ use std::alloc::{AllocError, Global};
 use std::marker::Model;
 use thiserror::Error;
 
-/// The first rule by which a date range is not added or not taken away, in this order.
+/// A rule that refuses to add or to remove a date range. If several apply, the first in this order counts.
 #[derive(Clone, Copy, Debug, PartialEq, Eq, Error)]
 pub enum RangeFault {
-    /// A date range of this id is listed, or was taken away lately (section 4.4.5.2).
+    /// A date range with this id is listed, or was removed recently (section 4.4.5.2).
     #[error("IdTaken")]
     IdTaken,
-    /// The id is empty or holds a quotation mark, a tab, CR or LF; or START-DATE is missing; or an attribute isn't one that
-    /// a date range may have, or has a value of another form.
+    /// The id is empty or holds a quotation mark, a tab, CR or LF; or START-DATE is missing; or an attribute isn't allowed or has
+    /// a value that isn't.
     #[error("BadAttribute")]
     BadAttribute,
-    /// No date range of this id is listed.
+    /// No date range with this id is listed.
     #[error("IdUnknown")]
     IdUnknown,
 }
 
-/// Why a date range is not added or not taken away.
+/// Why a date range isn't added or isn't removed.
 #[derive(Clone, Copy, Debug, PartialEq, Eq, Error)]
 pub enum RangeError {
-    /// A rule refuses it.
+    /// The first rule that refuses it.
     #[error("{0}")]
     Refused(RangeFault),
-    /// No rule refuses it, and memory ran out.
+    /// Out of memory, although no rule refuses it.
     #[error("Memory")]
     Memory,
 }
@@ -39,21 +40,21 @@ pub enum RangeError {
 /// A date range that a playlist lists (EXT-X-DATERANGE, section 4.4.5.1).
 #[derive(Clone, Copy, Debug)]
 pub struct DateRange<'a> {
-    /// The value of its ID attribute.
+    /// The value of the ID attribute.
     pub id: &'a str,
-    /// Its other attributes as a playlist spells them, in the order in which the publisher wrote them.
+    /// The other attributes as a playlist spells them, in the publisher's order.
     pub attributes: &'a str,
-    /// How long all parts before it last, in microseconds.
+    /// The duration of all parts before it, in microseconds.
     pub added: u64,
 }
 
-/// The date ranges of one rendition: those that are listed, in order of adding, and those that were taken away lately, in
-/// order of removal. A removal is recent while the parts after it last no longer than the skip limit (section 4.4.5.2).
+/// The date ranges of one rendition: those that are listed, in order of adding, and the recent removals, in order of removal.
+/// A removal is recent while the parts after it last no longer than the Skip Boundary (section 4.4.5.2).
 #[derive(Debug, Drop)]
 pub struct Ranges {
     pub(crate) limit: u64,
     pub(crate) listed: ListedRanges,
-    /// How long all parts before each removal last, in microseconds.
+    /// The ids of the recent removals, each with the duration of all parts before the removal, in microseconds.
     pub(crate) recent: IndexMap<String, u64>,
 }
 
@@ -68,7 +69,7 @@ impl Model for Ranges {
 }
 
 impl Ranges {
-    /// The date ranges of no items, under these settings. It takes no memory.
+    /// Returns the date ranges before the first item, in a channel of `settings`. They take no memory.
     pub fn new(alloc: Global, settings: &Settings) -> Ranges
         ensures { result ≡ announced settings.now [] }
     {
@@ -79,14 +80,14 @@ impl Ranges {
         }
     }
 
-    /// How many date ranges are listed.
+    /// Returns the number of date ranges that are listed.
     pub fn count(&self) -> usize
         ensures { result ≡ length self.now.listed }
     {
         self.listed.len()
     }
 
-    /// The date range at this place, 0 being the first that was added of those that are listed; none after the last.
+    /// Returns the date range at `place` of those that are listed, from 0 in order of adding, or `None` after the last.
     pub fn listed(&self, place: usize) -> Option<DateRange<'_>>
         ensures { MatchOption result (length self.now.listed ≤ place)
             (λ r. slice_get self.now.listed place ≡ Some (record { id = r.id.now; attributes = r.attributes.now; added = r.added })) }
@@ -94,9 +95,8 @@ impl Ranges {
         self.listed.get(place)
     }
 
-    /// How many of the date ranges that are listed a delta update may skip, where all parts of the rendition last so long until
-    /// now (microseconds): those after whose adding the parts last longer than the skip limit (section 6.2.5.1). They are the
-    /// first ones (`skipped_law`). It takes no memory.
+    /// Returns how many of the date ranges that are listed a delta update may skip: those after whose adding the parts last longer than the
+    /// Skip Boundary (section 6.2.5.1). They are the first ones (`skipped_law`).
     pub fn skipped(&self, end: u64) -> usize
         ensures { result ≡ skipped_at end self.now }
     {
@@ -111,8 +111,7 @@ impl Ranges {
         count
     }
 
-    /// The ids of the date ranges that were taken away lately, in order of removal, where all parts of the rendition last so
-    /// long until now (microseconds; section 4.4.5.2).
+    /// Returns the ids of the date ranges that were removed recently, in order of removal (section 4.4.5.2).
     pub fn recent(&self, alloc: Global, end: u64) -> Result<Vec<Text>, AllocError>
         ensures { IfOk result (λ ids. ids.items ≡ map (λ r. r.id) (recent_at end self.now)) }
     {
@@ -127,7 +126,7 @@ impl Ranges {
         Ok(ids)
     }
 
-    /// The removal at this place, 0 being the first that is kept: its id, and how long all parts before it last.
+    /// Returns the id of the removal at `place`, from 0, and the duration of all parts before it in microseconds.
     fn removal(&self, place: usize) -> Option<(&str, u64)>
         ensures { MatchOption result (length self.now.recent ≤ place)
             (λ r. slice_get self.now.recent place ≡ Some (record { id = r.0.now; removed = r.1 })) }
@@ -136,7 +135,7 @@ impl Ranges {
         Some((id.as_str(), *removed))
     }
 
-    /// Returns date ranges equal to these, or that memory ran out. The copy shares those that are listed with these.
+    /// Copies the date ranges. The copy shares those that are listed.
     pub fn copy(&self) -> Result<Ranges, AllocError>
         ensures { IfOk result (λ r. r ≡ self.now) }
     {

@@ -29,7 +29,7 @@ ranges_append : (xs : List (List ℕ)) (line : List ℕ) → ranges_of (xs ++ li
 ranges_append [] line = append-nil (of_line line)
 ranges_append (x ∷ xs) line = ap (λ rs. of_line x ++ rs) (ranges_append xs line) ∙ sym (append_assoc (of_line x) (ranges_of xs) (of_line line))
 
--- one line more of those that are passed
+-- one more line of those that are passed
 pub one_line : (count : ℕ) (whole parts : List (List ℕ)) (line : List ℕ) → drop count whole ≡ line ∷ parts → (drop (count + 1) whole ≡ parts) × (ranges_of (take (count + 1) whole) ≡ ranges_of (take count whole) ++ ranges_in (line_in (strip_carriage_return line)))
 one_line count whole parts line left =
     let within : count < length whole = omega (arith, length-drop count whole, ap length left) in

@@ -1,4 +1,4 @@
--- What lines come to, one after another, without their numbers: reading their text comes to it.
+-- The reading after lines, one after another, without their numbers: reading their text gives the same.
 use Rattle.std.proofs.Common.{◌≡◌, ℕ, ◌+◌, Bool, true, false, List, [], ◌∷◌, ◌++◌, refl, ap, sym, ◌∙◌, Option, Some, None, Ok}
 use Rattle.std.specs.Option.{option_map}
 use Rattle.ll_attr.specs.Words.{pieces_at}
@@ -29,7 +29,7 @@ come None lines = None
 come (Some r) [] = whole_at r.shape.stage r.draft.playlist
 come (Some r) (line ∷ more) = come (next r line) more
 
--- a line that may stand somewhere only under a condition
+-- a line that is allowed only under a condition
 pub allowed : (b : Bool) (o : Option Shape) (f : Shape → Reading) (more : List Line) (p : Playlist) → come (option_map f (only_if b o)) more ≡ Some p
     → (b ≡ true) × (come (option_map f o) more ≡ Some p)
 allowed true o f more p h = (refl, h)
@@ -42,7 +42,7 @@ ends : (n : ℕ) (stage : Stage) (q p : Playlist) → whole_at stage q ≡ Some 
 ends n AtEnd q p h = ap Ok (cc)
 ends n stage q p h = absurd (cc)
 
--- reading from a line on, by what the line comes to
+-- reading from a line on, by the reading after that line
 from_line : (n : ℕ) (r : Reading) (line : Line) (more : List Line) (o : Option Reading) (p : Playlist) → format.line.Within line → next r line ≡ o
     → come o more ≡ Some p
     → ((q : Reading) → come (Some q) more ≡ Some p → read_from (n + 1) q (pieces_at 10 (text_of more)) ≡ Ok p)
@@ -56,7 +56,7 @@ from_line n r line more (Some q) p within e h rest =
     let comes = ap (next_line r) (line-laws.again line within) ∙ e in
     sym (goes_on n r (Some q) whole text text (text_of more) (read_from n r (pieces_at 10 whole)) below (kept text one_line) comes refl) ∙ rest q h
 
--- lines that come to a whole playlist are read as it
+-- lines that make up a whole playlist are read as it
 pub read : (lines : List Line) (n : ℕ) (r : Reading) (p : Playlist) → Each format.line.Within lines → come (Some r) lines ≡ Some p
     → read_from n r (pieces_at 10 (text_of lines)) ≡ Ok p
 read [] n r p are h = ends n r.shape.stage r.draft.playlist p h

@@ -1,4 +1,4 @@
--- The lines of each piece of a playlist come to that piece, put after what stands before it.
+-- The lines of each piece of a playlist are read as that piece, after what comes before it.
 use Rattle.std.proofs.Common.{◌≡◌, ℕ, ◌||◌, ◌==◌, ◌&&◌, Bool, true, false, not, List, [], ◌∷◌, ◌++◌, map, refl, ap, sym, ◌∙◌, append_assoc, Option, Some, None}
 use Rattle.std.proofs.lemmas.Bool.{and_parts}
 use Rattle.std.proofs.lemmas.List.{append-nil}
@@ -18,7 +18,7 @@ use Rattle.ll_read.proofs.SoFar.{HasVersion, headed, in_block}
 abbrev pub from : Stage → Bool → Draft → Option Reading
 from stage may_end d = Some (at (record { stage = stage; may_end = may_end }) d)
 
--- where a segment may begin: one that leads after date ranges, another after a skip line or a segment
+-- the places where a segment can begin: one that leads after date ranges, another after a skip line or a segment
 abbrev pub between : Bool → Stage
 between true = InRanges
 between false = BetweenSegments
@@ -31,7 +31,7 @@ header p more known =
     allows (h.version == 9 || h.version == 10) (Some (record { stage = AfterVersion; may_end = true })) (λ s. at s (put (Version h.version) (plain blank)))
     (TargetDuration h.target ∷ control ∷ PartTarget h.part_target ∷ MediaSequence p.sequence ∷ DiscontinuitySequence p.discontinuity ∷ more) known
 
--- after a segment's time and perhaps parts
+-- after a segment's time and any parts
 abbrev pub in_segment : Bool → Stage
 in_segment true = InSegment
 in_segment false = InParts
@@ -84,7 +84,7 @@ after_one true false p more = refl
 after_one false true p more = refl
 after_one false false p more = refl
 
--- after a segment none leads, and all may end
+-- after a segment none leads, and the segments can end
 pub segments : (leading m : Bool) (ss : List Finished) (p : Playlist) (more : List Line) → have_maps leading ss ≡ true
     → come (from (between leading) m (plain p)) (flat_map segment_lines ss ++ more)
     ≡ come (from (between (leading && is_empty ss)) (m || not (is_empty ss)) (plain (record p { segments = p.segments ++ ss }))) more

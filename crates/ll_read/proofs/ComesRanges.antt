@@ -1,4 +1,4 @@
--- The lines of date ranges with distinct ids, and a skip line, come to those date ranges and that skip.
+-- The lines of date ranges with distinct ids, and a skip line, are read as those date ranges and that skip.
 use Rattle.std.proofs.Common.{◌≡◌, ℕ, ◌||◌, ◌≤◌, true, false, not, List, [], ◌∷◌, ◌++◌, map, refl, ap, sym, ◌∙◌, append_assoc, Option, Some, None, is_none, nat_le, bytes_eq}
 use Rattle.std.proofs.lemmas.Bool.{and_parts, or_parts, or_from, not-true, not_from_false, both_ways, false_from_ne_true, le-leb}
 use Rattle.std.proofs.lemmas.List.{append-nil}

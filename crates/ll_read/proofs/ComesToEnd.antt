@@ -1,4 +1,4 @@
--- The lines after all segments, perhaps with those of an open segment before them, come to the playlist's end.
+-- The lines after all segments, with those of an open segment before them if there is one, are read up to the playlist's end.
 use Rattle.std.proofs.Common.{◌≡◌, ℕ, Bool, true, false, List, [], ◌∷◌, ◌++◌, map, refl, ap, sym, ◌∙◌, append_assoc, Option, Some, None}
 use Rattle.std.proofs.lemmas.List.{append-nil}
 use Rattle.ll_format.specs.Format.{Where}
@@ -25,7 +25,7 @@ from_reports (r ∷ rs) hint p =
     from_reports rs hint (record p { reports = p.reports ++ r ∷ [] })
     ∙ ap (λ all. let q : Playlist = record p { reports = all; hint = hint } in Some q) (append_assoc p.reports (r ∷ []) rs)
 
--- where all segments end: with an open one, or between two
+-- the places where all segments end: with an open one, or between two
 abbrev end_at : Bool → Option Block → Playlist → Option Reading
 end_at leading None p = from (between leading) true (plain p)
 end_at leading (Some b) p = from InParts true (in_block b p)

@@ -1,4 +1,4 @@
--- One line after another, and what the lines left come to.
+-- One line after another, and what the lines that are left make up.
 use Rattle.std.proofs.Common.{◌≡◌, ℕ, ◌+◌, ◌<◌, ◌==◌, Bool, List, [], ◌∷◌, ◌++◌, length, refl, ap, sym, ◌∙◌, arith, Option, Some, None, Result}
 use Rattle.std.proofs.lemmas.List.{append-nil}
 use Rattle.std.proofs.lemmas.List.Splits.{length-slice_split}
@@ -29,7 +29,7 @@ by_parts line (p ∷ ps) some = refl
 pub first_is : (text line below : List ℕ) → pieces_at 10 text ≡ line ∷ pieces_at 10 below → strip_carriage_return line ≡ first_line (pieces_at 10 text)
 first_is text line below e = by_parts line (pieces_at 10 below) (some_parts below) ∙ ap first_line (sym e)
 
--- one line more, and what the lines left come to
+-- one more line, and what the lines that are left make up
 pub goes_on : (n : ℕ) (r : Reading) (o : Option Reading) (rest line shown below : List ℕ) (whole : Result Playlist ReadFault) → pieces_at 10 rest ≡ line ∷ pieces_at 10 below
     → shown ≡ strip_carriage_return line → next_line r (line_in shown) ≡ o → read_from n r (pieces_at 10 rest) ≡ whole
     → and_then n o (λ q. read_from (n + 1) q (pieces_at 10 below)) ≡ whole

@@ -22,7 +22,7 @@ use Rattle.ll_read.proofs.ComesToEnd.{end_lines, to_end}
 use Rattle.ll_read.proofs.SoFar.{headed}
 use Rattle.ll_read.proofs.WholeLines.{cut, kept, with_end}
 
--- the lines of a readable playlist come to it
+-- the lines of a readable playlist make it up
 all_come : (p : Playlist) → IsReadable p → come (Some start) (lines_of p) ≡ Some p
 all_come p can =
     let begin : Playlist = record (headed p.header p.sequence) { discontinuity = p.discontinuity } in
@@ -40,7 +40,7 @@ all_come p can =
     ∙ ap (λ m. come (from (between (leads p)) m (plain all)) after_segments) can.own_segment
     ∙ to_end (leads p) p.open_block p.reports p.hint all can.open_block
 
--- a text of such lines, of which the first is a playlist's, is read as what they come to
+-- a text of such lines, the first of which is a playlist's, is read as what they make up
 by_lines : (text : List ℕ) (more : List Line) (p : Playlist) → text ≡ text_of (First ∷ more) → is_utf8 text ≡ true → Each line.Within (First ∷ more)
     → come (Some start) (First ∷ more) ≡ Some p → playlist_in text ≡ Ok p
 by_lines text more p spelt utf8 within comes =

@@ -1,4 +1,4 @@
--- The readings that lines come to: what is known at each stage, the lines that it stands for, and what holds of it.
+-- The readings after lines: what is known at each stage, the lines that it stands for, and what holds of it.
 use Rattle.std.proofs.Common.{◌≡◌, ℕ, ◌≤◌, ◌==◌, ◌||◌, true, false, List, [], ◌∷◌, ◌++◌, map, Option, Some, None, is_none}
 use Rattle.std.specs.List.{flat_map}
 use Rattle.ll_format.specs.Format.{Where}
@@ -36,7 +36,7 @@ uri_of (Some uri) = uri
 abbrev pub in_block : Block → Playlist → Draft
 in_block b p = record (plain p) { segment = Some b }
 
--- just what is known of a draft at a stage
+-- exactly what is known of a draft at a stage
 abbrev pub known : Stage → Draft → Draft
 known AfterVersion d = plain (headed (record (blank.header) { version = d.playlist.header.version }) 0)
 known AfterTargetDuration d = plain (headed (record (blank.header) { version = d.playlist.header.version; target = d.playlist.header.target }) 0)

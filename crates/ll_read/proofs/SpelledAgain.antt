@@ -1,4 +1,4 @@
--- What was read is written again, is readable, and has the outline of its lines: the lines of the text are those of the playlist that they come to.
+-- What was read is written again, is readable, and has the outline of its lines: the lines of the text are those of the playlist that they make up.
 use Rattle.std.proofs.Common.{◌≡◌, ℕ, List, ap, sym, subst, ◌∙◌, Ok, codes, bytes_eq}
 use Rattle.std.proofs.lemmas.Bool.{and_parts}
 use Rattle.std.specs.Str.{is_utf8}

@@ -1,4 +1,4 @@
--- The lines of a text that spells a playlist: they come to it, and its texts and outline are theirs.
+-- The lines of a text that spells a playlist: they make it up, and its texts and outline are theirs.
 use Rattle.std.proofs.Common.{◌≡◌, ℕ, ◌+◌, List, [], ◌∷◌, ◌++◌, refl, ap, sym, ◌∙◌, append_assoc, Option, Some, None, Result, Ok, Err, if◌then◌else◌}
 use Rattle.std.specs.Str.Lines.{strip_carriage_return}
 use Rattle.ll_line.specs.Formats as format

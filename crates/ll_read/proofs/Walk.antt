@@ -1,4 +1,4 @@
--- Lines that come to a playlist are its lines and come to its outline, and it is as it should be: line by line, by the stage that one stands at.
+-- The lines that make up a playlist are its lines and have its outline, and it is readable: line by line, by the stage before each.
 use Rattle.std.proofs.Common.{◌≡◌, ℕ, ◌==◌, ◌||◌, ◌&&◌, Bool, true, false, not, List, [], ◌∷◌, ◌++◌, length-append, map, refl, ap, sym, subst, ◌∙◌, append_assoc, Some, None, is_none, nat_le, bytes_eq}
 use Rattle.std.proofs.lemmas.Bool.{and_from, and_parts, and_right, leb-true, not-true, not_from_false, or_from, or_parts, or_right}
 use Rattle.std.proofs.lemmas.List.Folds.{list_any-append}
@@ -26,11 +26,11 @@ use Rattle.ll_read.proofs.SoFar.{Holds, IsSound, IsWhole, block_of, in_block, kn
 abbrev Comes : Stage → Draft → List Line → Playlist → Type 0
 Comes stage d lines p = (so_far stage d lines ≡ lines_of p) × IsWhole p × (outline_with (outline_of (known stage d).playlist) lines ≡ outline_of p)
 
--- what the lines below come to
+-- what the lines below make up
 abbrev Rest : List Line → Playlist → Type 0
 Rest more p = (stage : Stage) (d : Draft) → Holds stage d → come (Some (reading_at stage d)) more ≡ Some p → Comes stage d more p
 
--- a line that may not stand there
+-- a line that isn't allowed there
 never : {A : Type 0} (p : Playlist) → None ≡ Some p → A
 never p h = absurd (cc)
 

@@ -1,4 +1,4 @@
--- What the lines so far come to, with what they say of the segment that one stands in.
+-- The playlist that the lines so far make up, and what they say of the segment under way (section 4.4).
 use Rattle.std.specs.Prelude.{ℕ, List, [], ◌∷◌, ◌++◌, Bool, true, false, Option, Some, None}
 use Rattle.std.specs.Option.{option_map}
 use Rattle.ll_line.specs.Line.{DateRange, Discontinuity, DiscontinuitySequence, Duration, EndList, First, Hint, Line, Map, MediaSequence, Part, PartLine, PartTarget, RenditionReport, ServerControl, Skipped, TargetDuration, Time, Uri, Version}
@@ -6,16 +6,16 @@ use Rattle.ll_line.specs.Playlist.{Block, Header, Playlist}
 
 pub record Draft : Type 0 where
   pub playlist : Playlist
-  -- whether the next segment is broken from the one before it
+  -- whether the next segment begins with a discontinuity
   pub broken : Bool
   -- the next segment's map
   pub map : Option (List ℕ)
-  -- the segment that one stands in
+  -- the segment under way
   pub segment : Option Block
-  -- how long it lasts
+  -- the duration of the segment under way
   pub duration : ℕ
 
--- before the first line
+-- the playlist before the first line
 abbrev pub blank : Playlist
 blank = record {
   header = record { version = 0; target = 0; hold_back = 0; skip_until = 0; skips_date_ranges = false; part_target = 0 };
@@ -45,7 +45,7 @@ abbrev pub with_segment : Option Block → ℕ → List ℕ → Playlist → Pla
 with_segment None duration uri p = p
 with_segment (Some b) duration uri p = record p { segments = p.segments ++ (record { block = b; duration = duration; uri = uri }) ∷ [] }
 
--- a segment that one stands in stays open
+-- the segment under way, if there is one, stays open
 abbrev pub with_open : Option Block → Playlist → Playlist
 with_open None p = p
 with_open (Some b) p = record p { open_block = Some b }
@@ -53,7 +53,7 @@ with_open (Some b) p = record p { open_block = Some b }
 abbrev pub closed : Draft → Draft
 closed d = record d { playlist = with_open d.segment d.playlist; segment = None }
 
--- a line more, wherever it stands
+-- the draft with one more line, whether it is allowed there or not
 abbrev pub put : Line → Draft → Draft
 put First d = d
 put (Version n) d = record d { playlist = with_header (record (d.playlist.header) { version = n }) d.playlist }

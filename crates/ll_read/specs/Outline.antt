@@ -1,4 +1,4 @@
--- What a playlist comes to without its texts.
+-- A playlist without its texts.
 use Rattle.std.specs.Prelude.{length}
 use Rattle.std.specs.Option.{option_map}
 use Rattle.ll_line.specs.Line.{Skip}

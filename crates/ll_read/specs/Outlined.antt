@@ -1,4 +1,4 @@
--- For private contracts: what lines come to without their texts, wherever they stand.
+-- For private contracts: the outline of lines, whether they are allowed in their places or not.
 use Rattle.std.specs.Prelude.{ℕ, ◌+◌, List, [], ◌∷◌, Option, Some, None}
 use Rattle.std.specs.Str.Lines.{strip_carriage_return}
 use Rattle.ll_line.specs.Formats.{line_in}
@@ -15,7 +15,7 @@ abbrev pub with_read : Option Line → Outline → Outline
 with_read None o = o
 with_read (Some line) o = with_line line o
 
--- what stands after the last LF is no line
+-- what follows the last LF is no line
 abbrev pub outline_from : Outline → List (List ℕ) → Outline
 outline_from o [] = o
 outline_from o (rest ∷ []) = o

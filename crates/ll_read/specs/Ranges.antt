@@ -10,7 +10,7 @@ use Rattle.std.specs.declared.string.String.{String}
 abbrev pub range_at : {A : Type 0} → String A × List ℕ → DateRangeLine
 range_at entry = record { id = string_bytes entry.0; attributes = entry.1 }
 
--- whether one of these date ranges has this id
+-- whether one of the date ranges has this id (section 4.4.5.1)
 abbrev pub has_id : List ℕ → List DateRangeLine → Bool
 has_id id ranges = list_any (λ (range : DateRangeLine). bytes_eq id range.id) ranges
 
@@ -23,7 +23,7 @@ abbrev pub ranges_in : Option Line → List DateRangeLine
 ranges_in None = []
 ranges_in (Some line) = range_of line
 
--- the date ranges of lines
+-- the date ranges among `lines`
 abbrev pub ranges_of : List (List ℕ) → List DateRangeLine
 ranges_of [] = []
 ranges_of (line ∷ lines) = ranges_in (line_in (strip_carriage_return line)) ++ ranges_of lines

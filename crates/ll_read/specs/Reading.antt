@@ -1,4 +1,4 @@
--- The playlist that a text spells, line by line. Lines end in LF or CR LF, the last one too.
+-- The playlist that a text spells, line by line. Each line ends in LF or CR LF, the last one too.
 use Rattle.std.specs.Prelude.{ℕ, ◌+◌, List, [], ◌∷◌, ◌++◌, Bool, true, false, not, ◌&&◌, Option, Some, None, Result, Ok, Err, bytes_eq, codes, if◌then◌else◌}
 use Rattle.std.specs.Option.{option_map}
 use Rattle.std.specs.Str.{is_utf8}
@@ -16,7 +16,7 @@ use Rattle.ll_read.specs.declared.shape.Shape.{Shape}
 use Rattle.ll_read.specs.declared.shape.Stage.{Stage}
 use Rattle.ll_read.specs.declared.shape.Stage.TheVariants.{AtEnd}
 
--- where one stands, and what the lines so far come to
+-- which line is allowed next, and what the lines so far make up
 pub record Reading : Type 0 where
   pub shape : Shape
   pub draft : Draft
@@ -27,12 +27,12 @@ at shape draft = record { shape = shape; draft = draft }
 abbrev pub start : Reading
 start = at at_start (plain blank)
 
--- whether a line has an id that no date range before has, where it has one
+-- whether a line has no id, or one that no date range before it has
 abbrev pub is_new_line : Line → Playlist → Bool
 is_new_line (DateRange range) p = not (has_id range.id p.ranges)
 is_new_line line p = true
 
--- one line more; none where it may not stand there
+-- the reading after one more line, or none if the line isn't allowed there
 abbrev pub next : Reading → Line → Option Reading
 next r line = option_map (λ shape. at shape (put line r.draft)) (shape_next r.shape line (is_new_line line r.draft.playlist))
 
@@ -40,7 +40,7 @@ abbrev pub next_line : Reading → Option Line → Option Reading
 next_line r None = None
 next_line r (Some line) = next r line
 
--- what stands at the end of the text, whose next line would have this number
+-- the result at the end of the text, whose next line would be the line `number`
 abbrev pub text_ended : ℕ → Stage → Playlist → Result Playlist ReadFault
 text_ended number AtEnd p = Ok p
 text_ended number stage p = Err (BadLine number)
@@ -53,8 +53,8 @@ abbrev pub is_empty : {A : Type 0} → List A → Bool
 is_empty [] = true
 is_empty (x ∷ xs) = false
 
--- the playlist of these lines, of which the first has this number, or the number of the first that can't stand in its
--- place; after the last LF nothing stands
+-- the playlist of the lines, the first of which is line `number`, or the number of the first line that isn't allowed in its place; nothing follows
+-- the last LF
 abbrev pub read_from : ℕ → Reading → List (List ℕ) → Result Playlist ReadFault
 read_from number r [] = text_ended number r.shape.stage r.draft.playlist
 read_from number r (rest ∷ []) = if is_empty rest then text_ended number r.shape.stage r.draft.playlist else Err (BadLine number)
@@ -75,12 +75,12 @@ is_playlist text = is_utf8 text && bytes_eq (first_line (pieces_at 10 text)) (co
 abbrev pub playlist_in : List ℕ → Result Playlist ReadFault
 playlist_in text = if is_playlist text then read_from 1 start (pieces_at 10 text) else Err NotPlaylist
 
--- these lines, each with LF at its end
+-- the lines, each with LF at its end
 abbrev pub line_feeds_of : List (List ℕ) → List ℕ
 line_feeds_of [] = []
 line_feeds_of (rest ∷ []) = rest
 line_feeds_of (line ∷ below ∷ more) = strip_carriage_return line ++ (10 ∷ line_feeds_of (below ∷ more))
 
--- a text whose lines end in LF or CR LF, with LF in either place
+-- a text whose lines end in LF or CR LF, with LF for both
 abbrev pub with_line_feeds : List ℕ → List ℕ
 with_line_feeds text = line_feeds_of (pieces_at 10 text)

@@ -1,4 +1,4 @@
-//! What the lines so far come to.
+//! The playlist that the lines so far make up.
 ghost use Rattle.std.specs.Prelude.{◌≡◌, ◌++◌, ◌∷◌, [], IfOk, map, false};
 ghost use Rattle.std.specs.Option.{option_map};
 ghost use Rattle.ll_read.specs.Draft.{blank, closed, plain, with_part};
@@ -17,17 +17,17 @@ use ll_line::{DateTime, Line, Uri};
 use std::alloc::{AllocError, Global};
 use std::marker::Model;
 
-/// The playlist so far, and what its next segment begins with.
+/// The playlist so far, and what the lines so far say of its next segment.
 #[derive(Drop)]
 pub(crate) struct Draft {
     pub(crate) playlist: Playlist,
-    /// Whether the next segment is broken from the one before it.
+    /// Whether the next segment begins with a discontinuity.
     pub(crate) broken: bool,
-    /// The URI of the next segment's map.
+    /// The URI of the next segment's Media Initialization Section.
     pub(crate) map: Option<Text>,
-    /// The segment that one stands in.
+    /// The segment under way, whose URI hasn't come yet.
     pub(crate) segment: Option<Block>,
-    /// How long it lasts, in microseconds.
+    /// The duration of the segment under way, in microseconds.
     pub(crate) duration: u64,
 }
 
@@ -40,7 +40,7 @@ impl Model for Draft {
 }
 
 impl Draft {
-    /// Before the first line. It takes no memory.
+    /// Returns the draft before the first line. It takes no memory.
     pub(crate) fn new(alloc: Global) -> Draft
         ensures { result ≡ plain blank }
     {
@@ -72,8 +72,8 @@ impl Draft {
         }
     }
 
-    /// Takes in a line, wherever it stands; or answers that no memory was found, and is of no use then. The id of a
-    /// date range is new; one that isn't is answered so too.
+    /// Adds a line, whether it is allowed there or not. After a failure the draft is of no use. The id of a date range must be new, else it fails
+    /// too.
     pub(crate) fn put(&mut self, alloc: Global, line: &Line<'_>) -> Result<(), AllocError>
         ensures { IfOk result (λ u. self.new ≡ spec.put (meant line.now) self.old) }
     {
@@ -101,7 +101,7 @@ impl Draft {
         }
     }
 
-    /// Takes in a line that needs no memory.
+    /// Adds a line that takes no memory.
     fn set(&mut self, line: &Line<'_>)
         requires { takes_memory (meant line.now) ≡ false }
         ensures { self.new ≡ spec.put (meant line.now) self.old }
@@ -124,7 +124,7 @@ impl Draft {
         }
     }
 
-    /// So many segments are skipped, and these removed date ranges listed.
+    /// Adds the line of a skip: how many segments are skipped, and which removed date ranges it lists.
     fn skip(&mut self, alloc: Global, skip: &ll_line::Skip<'_>) -> Result<(), AllocError>
         ensures { IfOk result (λ u. self.new ≡ spec.put (line.Skipped (skip_meant skip.now)) self.old) }
     {
@@ -136,7 +136,7 @@ impl Draft {
         Ok(())
     }
 
-    /// A segment begins at this time.
+    /// Begins a segment at `time`.
     fn open(&mut self, alloc: Global, time: &DateTime<'_>) -> Result<(), AllocError>
         ensures { IfOk result (λ u. self.new ≡ spec.put (line.Time (date_time_text time.now)) self.old) }
     {
@@ -151,7 +151,7 @@ impl Draft {
         Ok(())
     }
 
-    /// The segment has this part.
+    /// Adds a part to the segment under way.
     fn add_part(&mut self, alloc: Global, part: &ll_line::PartLine<'_>) -> Result<(), AllocError>
         ensures { IfOk result (λ u. self.new ≡ spec.put (line.Part (part_meant part.now)) self.old) }
     {
@@ -163,7 +163,7 @@ impl Draft {
         put_part(&mut self.segment, part)
     }
 
-    /// The segment has this URI.
+    /// Finishes the segment under way, with its URI.
     fn finish_segment(&mut self, alloc: Global, uri: &Uri<'_>) -> Result<(), AllocError>
         ensures { IfOk result (λ u. self.new ≡ spec.put (line.Uri (uri_text uri.now)) self.old) }
     {
@@ -181,7 +181,7 @@ impl Draft {
         Ok(())
     }
 
-    /// A Rendition Report comes, after which the segment that one stands in stays open.
+    /// Adds a Rendition Report, after which the segment under way stays open.
     fn add_report(&mut self, alloc: Global, report: &ll_line::Report<'_>) -> Result<(), AllocError>
         ensures { IfOk result (λ u. self.new ≡ spec.put (line.RenditionReport (report_meant report.now)) self.old) }
     {
@@ -195,7 +195,7 @@ impl Draft {
         Ok(())
     }
 
-    /// The Preload Hint comes, of this URI, after which the segment that one stands in stays open.
+    /// Adds the Preload Hint, after which the segment under way stays open.
     fn add_hint(&mut self, alloc: Global, uri: &Uri<'_>) -> Result<(), AllocError>
         ensures { IfOk result (λ u. self.new ≡ spec.put (line.Hint (uri_text uri.now)) self.old) }
     {
@@ -204,7 +204,7 @@ impl Draft {
         Ok(())
     }
 
-    /// The segment that one stands in stays open.
+    /// Makes the segment under way, if there is one, the open segment.
     fn close(&mut self)
         ensures { self.new ≡ closed self.old }
     {
@@ -214,14 +214,14 @@ impl Draft {
     }
 }
 
-/// A URI as a text of its own.
+/// Returns a URI as a text of its own.
 fn uri_copy(alloc: Global, uri: &Uri<'_>) -> Result<Text, AllocError>
     ensures { IfOk result (λ text. text ≡ uri_text uri.now) }
 {
     Ok(Text::from_string(format!(in alloc; "{uri}")?))
 }
 
-/// Puts a date range of a new id after the others.
+/// Adds a date range with a new id after the others.
 fn put_range(
     ranges: &mut IndexMap<String, Text>,
     alloc: Global,
@@ -240,7 +240,7 @@ fn put_range(
     }
 }
 
-/// Puts a part after the others of a segment, where there is one.
+/// Adds a part to a segment, if there is one.
 fn put_part(segment: &mut Option<Block>, part: PartLine) -> Result<(), AllocError>
     ensures { IfOk result (λ u. segment.new ≡ option_map (with_part part) segment.old) }
 {
@@ -250,7 +250,7 @@ fn put_part(segment: &mut Option<Block>, part: PartLine) -> Result<(), AllocErro
     Ok(())
 }
 
-/// The ids that a skip line lists, where it does.
+/// Returns the ids that a skip line lists, or `None` if it has no list.
 fn removed_ids(alloc: Global, removed: Option<&str>) -> Result<Option<Vec<Text>>, AllocError>
     ensures { IfOk result (λ r. option_map (λ ids. ids.items) r ≡ option_map (λ ids. cut_at 9 ids.now) removed.entry) }
 {
@@ -260,7 +260,7 @@ fn removed_ids(alloc: Global, removed: Option<&str>) -> Result<Option<Vec<Text>>
     }
 }
 
-/// The ids of a text with a tab between two of them.
+/// Splits a text into the ids between its tabs.
 fn split_ids(alloc: Global, text: &str) -> Result<Vec<Text>, AllocError>
     ensures { IfOk result (λ ids. ids.items ≡ cut_at 9 text.now) }
 {

@@ -1,19 +1,19 @@
+//! Why a text is no playlist.
 use thiserror::Error;
 
-/// Why bytes are no playlist: the first of these that applies. Memory is answered only where there is no other
-/// fault.
+/// The reason that bytes are no playlist: the first of these that applies.
 #[derive(Clone, Copy, Debug, PartialEq, Eq, Error)]
 pub enum ReadFault {
     /// They aren't UTF-8, or don't begin with the line `#EXTM3U` (section 4.4.1.1).
     #[error("NotPlaylist")]
     NotPlaylist,
-    /// The first line that can't stand in its place, counted from 1; where the text ends too early, the line after the last.
+    /// A line isn't allowed in its place: the number of the first one, from 1. If the text ends too early, it is that of the line after the last.
     #[error("BadLine {line}")]
     BadLine {
         /// The number of the line.
         line: u64,
     },
-    /// No memory was found.
+    /// Out of memory.
     #[error("Memory")]
     Memory,
 }

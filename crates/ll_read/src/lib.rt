@@ -1,4 +1,4 @@
-//! Reads Media Playlists and Playlist Delta Updates of this profile. Sections are those of draft-pantos-hls-rfc8216bis.
+//! Reads and writes Media Playlists and Playlist Delta Updates of this profile. Sections are those of draft-pantos-hls-rfc8216bis.
 #![tactic(auto)]
 
 mod draft;

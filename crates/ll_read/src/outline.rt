@@ -1,4 +1,4 @@
-//! What playlists come to without their texts.
+//! Playlists without their texts.
 ghost use Rattle.std.specs.Prelude.{◌≡◌, ◌+◌, ◌<◌, ◌^◌, Ok};
 ghost use Rattle.ll_attr.specs.Words.{pieces_at};
 ghost use Rattle.ll_line.specs.Playlist.{Playlist};
@@ -16,19 +16,19 @@ use ll_line::Line;
 use std::alloc::Global;
 use std::str;
 
-/// What a playlist comes to without its texts.
+/// A playlist without its texts.
 #[derive(Clone, Copy, Debug, PartialEq, Eq)]
 pub struct Outline {
-    /// The media sequence number of its first segment (section 4.4.3.2).
+    /// The Media Sequence Number of its first segment (section 4.4.3.2).
     pub sequence: u64,
-    /// How many finished segments it lists.
+    /// The number of finished segments that it lists.
     pub segments: usize,
-    /// How many segments its EXT-X-SKIP line stands for, where it has one (section 4.4.5.2).
+    /// The number of segments that its EXT-X-SKIP line stands for, if it has one (section 4.4.5.2).
     pub skipped: Option<u64>,
 }
 
 impl Playlist {
-    /// This playlist without its texts.
+    /// Returns the playlist without its texts.
     pub fn outline(&self) -> Outline
         ensures { result ≡ outline_of self.now }
     {
@@ -40,7 +40,7 @@ impl Playlist {
     }
 }
 
-/// What the playlist comes to that a text spells, told without memory; of a text that spells none nothing is told.
+/// Returns the outline of the playlist that `bytes` spell, without taking memory. If they spell none, the result means nothing.
 pub fn read_outline(alloc: Global, bytes: &[u8]) -> Outline
     ensures { (p : Playlist) → playlist_in bytes.now ≡ Ok p → result ≡ outline_of p }
 {
@@ -50,7 +50,7 @@ pub fn read_outline(alloc: Global, bytes: &[u8]) -> Outline
     }
 }
 
-/// What lines come to.
+/// Returns the outline of the lines of `text`.
 fn outline_of_lines(alloc: Global, text: &str) -> Outline
     ensures { result ≡ outline_from (outline_of blank) (pieces_at 10 text.now) }
 {
@@ -66,7 +66,7 @@ fn outline_of_lines(alloc: Global, text: &str) -> Outline
 }
 
 impl Outline {
-    /// Before the first line.
+    /// Returns the outline before the first line.
     fn start() -> Outline
         ensures { result ≡ outline_of blank }
     {
@@ -77,7 +77,7 @@ impl Outline {
         }
     }
 
-    /// With one line more.
+    /// Returns the outline with one more line.
     fn with_line(self, line: &Line<'_>) -> Outline
         requires { self.segments + 1 < 2 ^ 64 }
         ensures { result ≡ spec.with_line (meant line.now) self }

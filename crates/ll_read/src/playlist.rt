@@ -1,4 +1,4 @@
-//! Playlists, as their lines tell them.
+//! Playlists, as values of what their lines say.
 ghost use Rattle.std.specs.Prelude.{◌≡◌, ◌≤◌, Some, MatchOption, length, map, slice_get};
 ghost use Rattle.ll_read.specs.Ranges.{has_id, range_at};
 
@@ -10,7 +10,7 @@ use std::marker::Model;
 /// An EXT-X-PART line (section 4.4.4.9).
 #[derive(Debug, Drop)]
 pub struct PartLine {
-    /// How long the part lasts, in microseconds.
+    /// The duration of the part, in microseconds.
     pub duration: u64,
     pub uri: Text,
     pub independent: bool,
@@ -24,12 +24,12 @@ impl Model for PartLine {
     ghost view = { λ p. record { duration = p.duration; uri = p.uri; independent = p.independent } };
 }
 
-/// The lines of a segment that stand before its EXTINF line.
+/// The lines of a segment before its EXTINF line.
 #[derive(Debug, Drop)]
 pub struct Block {
-    /// Whether it is broken from the segment before it (section 4.4.4.3).
+    /// Whether the segment begins with a discontinuity (section 4.4.4.3).
     pub broken: bool,
-    /// The URI of the Media Initialization Section that its EXT-X-MAP line names, where it has one (section 4.4.4.5).
+    /// The URI of the Media Initialization Section in its EXT-X-MAP line, if it has one (section 4.4.4.5).
     pub map: Option<Text>,
     /// The time of its first sample (section 4.4.4.6).
     pub time: Text,
@@ -44,11 +44,11 @@ impl Model for Block {
     ghost view = { λ b. record { broken = b.broken; map = b.map; time = b.time; parts = b.parts.items } };
 }
 
-/// A segment that has its EXTINF line and its URI.
+/// A segment with its EXTINF line and its URI.
 #[derive(Debug, Drop)]
 pub struct Finished {
     pub block: Block,
-    /// How long the segment lasts, in microseconds (section 4.4.4.1).
+    /// The duration of the segment, in microseconds (section 4.4.4.1).
     pub duration: u64,
     pub uri: Text,
 }
@@ -64,9 +64,9 @@ impl Model for Finished {
 /// An EXT-X-SKIP line (section 4.4.5.2).
 #[derive(Debug, Drop)]
 pub struct Skip {
-    /// How many segments it stands for.
+    /// The number of segments that it stands for.
     pub count: u64,
-    /// The ids of date ranges that were taken away lately, where it lists them.
+    /// The ids of recently removed date ranges, if it lists them.
     pub removed: Option<Vec<Text>>,
 }
 
@@ -79,13 +79,13 @@ impl Model for Skip {
     ghost view = { λ s. record { count = s.count; removed = option_map (λ ids. ids.items) s.removed } };
 }
 
-/// How far another rendition has come (EXT-X-RENDITION-REPORT, section 4.4.5.4).
+/// The position of another rendition (EXT-X-RENDITION-REPORT, section 4.4.5.4).
 #[derive(Debug, Drop)]
 pub struct Report {
     pub uri: Text,
-    /// The media sequence number of its last segment with a part.
+    /// The Media Sequence Number of its last segment with a part.
     pub number: u64,
-    /// The index of that segment's last part.
+    /// The Part Index of that segment's last part.
     pub index: u64,
 }
 
@@ -97,20 +97,20 @@ impl Model for Report {
     ghost view = { λ r. record { uri = r.uri; number = r.number; index = r.index } };
 }
 
-/// What does not change while the stream goes on.
+/// What stays the same while the stream goes on.
 #[derive(Debug, Drop)]
 pub struct Header {
-    /// Section 4.4.1.2.
+    /// The protocol version (section 4.4.1.2).
     pub version: u64,
-    /// Seconds (section 4.4.3.1).
+    /// The target duration, in seconds (section 4.4.3.1).
     pub target: u64,
-    /// How far players hold back, in microseconds (section 4.4.3.8).
+    /// The distance from the end that players keep, in microseconds (PART-HOLD-BACK, section 4.4.3.8).
     pub hold_back: u64,
-    /// Up to where a delta update may skip, in microseconds (section 4.4.3.8).
+    /// The Skip Boundary, in microseconds (CAN-SKIP-UNTIL, section 4.4.3.8).
     pub skip_until: u64,
-    /// Whether a delta update may leave out date ranges (section 4.4.3.8).
+    /// Whether a delta update can skip date ranges (section 4.4.3.8).
     pub skips_date_ranges: bool,
-    /// Microseconds (section 4.4.3.7).
+    /// The part target duration, in microseconds (section 4.4.3.7).
     pub part_target: u64,
 }
 
@@ -133,18 +133,18 @@ impl Model for Header {
 #[derive(Debug, Drop)]
 pub struct Playlist {
     pub header: Header,
-    /// The media sequence number of the first segment (section 4.4.3.2).
+    /// The Media Sequence Number of the first segment (section 4.4.3.2).
     pub sequence: u64,
-    /// The discontinuity sequence number (section 4.4.3.3).
+    /// The Discontinuity Sequence Number (section 4.4.3.3).
     pub discontinuity: u64,
     pub(crate) ranges: IndexMap<String, Text>,
-    /// What stands for the segments before these, in a delta update.
+    /// The line that stands for the segments before those listed, in a delta update.
     pub skipped: Option<Skip>,
     pub segments: Vec<Finished>,
-    /// The lines of the open segment, where it has a part.
+    /// The lines of the open segment, if it has a part.
     pub open_block: Option<Block>,
     pub reports: Vec<Report>,
-    /// The URI of the part that comes next (section 4.4.5.3); none where the rendition has ended.
+    /// The URI of the next part (section 4.4.5.3), or `None` if the rendition has ended.
     pub hint: Option<Text>,
 }
 
@@ -169,14 +169,14 @@ impl Model for Playlist {
 }
 
 impl Playlist {
-    /// How many date ranges are listed.
+    /// Returns how many date ranges are listed.
     pub fn ranges(&self) -> usize
         ensures { result ≡ length self.now.ranges }
     {
         self.ranges.len()
     }
 
-    /// The date range at this place, 0 being the first; none after the last.
+    /// Returns the date range at `place`, from 0, or `None` after the last.
     pub fn range(&self, place: usize) -> Option<DateRange<'_>>
         ensures { MatchOption result (length self.now.ranges ≤ place)
             (λ r. slice_get self.now.ranges place ≡ Some (record { id = r.id.now; attributes = r.attributes.now })) }
@@ -188,7 +188,7 @@ impl Playlist {
         })
     }
 
-    /// Whether a date range of this id is listed.
+    /// Returns whether a date range with this id is listed.
     pub fn has_range(&self, id: &str) -> bool
         ensures { result ≡ has_id id.now self.now.ranges }
     {
@@ -196,7 +196,7 @@ impl Playlist {
     }
 }
 
-/// Whether a date range has this id.
+/// Returns whether one of the date ranges has this id.
 fn has_key(ranges: &IndexMap<String, Text>, id: &str) -> bool
     ensures { result ≡ has_id id.now (map range_at ranges.now.entries) }
 {

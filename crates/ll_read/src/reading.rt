@@ -18,8 +18,8 @@ use ll_line::Line;
 use std::alloc::{AllocError, Global};
 use std::str;
 
-/// The playlist that a text spells: a Media Playlist or a Playlist Delta Update in UTF-8 (section 4) of this profile, whose
-/// lines end in LF or CR LF. Where it spells none, the first fault; out of memory comes after all others.
+/// Parses a Media Playlist or a Playlist Delta Update of this profile: UTF-8 (section 4), whose lines end in LF or CR LF. Fails with the first fault;
+/// `Memory` comes after all others.
 pub fn read(alloc: Global, bytes: &[u8]) -> Result<Playlist, ReadFault>
     ensures value { IfOk result (λ p. playlist_in bytes.now ≡ Ok p) }
     ensures refused { IfErr result (λ fault. fault ≢ ReadFault.Memory → playlist_in bytes.now ≡ Err fault) }
@@ -35,7 +35,7 @@ pub fn read(alloc: Global, bytes: &[u8]) -> Result<Playlist, ReadFault>
     }
 }
 
-/// The first line, without its end.
+/// Returns the first line, without its end.
 fn first(text: &str) -> &str
     ensures { result.now ≡ first_line (pieces_at 10 text.now) }
 {
@@ -45,7 +45,7 @@ fn first(text: &str) -> &str
     }
 }
 
-/// A line without the CR that may stand before its LF.
+/// Returns a line without the CR that can stand before its LF.
 pub(crate) fn without_end(line: &str) -> &str
     ensures { result.now ≡ strip_carriage_return line.now }
 {
@@ -55,7 +55,7 @@ pub(crate) fn without_end(line: &str) -> &str
     }
 }
 
-/// The playlist of these lines. Once memory is refused the draft is given up, and the other lines are checked without it.
+/// Reads the playlist of the lines of `text`. Once memory is missing the draft is dropped, and the other lines are checked without it.
 fn read_lines(alloc: Global, text: &str) -> Result<Playlist, ReadFault>
     ensures value { IfOk result (λ p. read_from 1 start (pieces_at 10 text.now) ≡ Ok p) }
     ensures refused { IfErr result (λ fault. fault ≢ ReadFault.Memory → read_from 1 start (pieces_at 10 text.now) ≡ Err fault) }
@@ -81,7 +81,7 @@ fn read_lines(alloc: Global, text: &str) -> Result<Playlist, ReadFault>
     }
 }
 
-/// What the lines come to, if this stands after the last LF.
+/// Returns the playlist, if it is complete and `rest`, what follows the last LF, is empty. `number` is that of a line at `rest`.
 fn ended(rest: &str, shape: Shape, draft: Option<Draft>, number: u64) -> Result<Playlist, ReadFault>
     ensures value { (d : Draft) → drafted draft d → IfOk result (λ p. read_from number (at shape d) (rest.now ∷ []) ≡ Ok p) }
     ensures refused { (d : Draft) → IfErr result (λ fault. fault ≢ ReadFault.Memory → read_from number (at shape d) (rest.now ∷ []) ≡ Err fault) }
@@ -96,7 +96,7 @@ fn ended(rest: &str, shape: Shape, draft: Option<Draft>, number: u64) -> Result<
     }
 }
 
-/// One more line, and where one stands after it, if it may stand there.
+/// Parses a line, which follows the first `count` lines of `text`. Returns it with the shape after it, or `None` if it isn't allowed there.
 fn allowed<'a>(
     alloc: Global,
     shape: Shape,
@@ -115,7 +115,7 @@ fn allowed<'a>(
     Some((shape, line))
 }
 
-/// The draft with a line more, while memory is found.
+/// Returns the draft with one more line, or `None` once memory is missing.
 fn grown(draft: Option<Draft>, alloc: Global, line: &Line<'_>) -> Option<Draft>
     ensures { (d : Draft) → drafted draft d → drafted result (put (meant line.now) d) }
 {
@@ -126,7 +126,8 @@ fn grown(draft: Option<Draft>, alloc: Global, line: &Line<'_>) -> Option<Draft>
     }
 }
 
-/// Whether the id of a line is new after so many lines, where it has one. Without a draft the lines are gone through again.
+/// Returns whether the first `count` lines of `text` have no date range with the id of `line`, if that is a date range. Without a draft they are read
+/// again.
 fn is_new(alloc: Global, draft: &Option<Draft>, text: &str, count: usize, line: &Line<'_>) -> bool
     ensures { (d : Draft) → IsAfter (take count (pieces_at 10 text.now)) draft.now d → result ≡ is_new_line (meant line.now) d.playlist }
 {
@@ -137,7 +138,7 @@ fn is_new(alloc: Global, draft: &Option<Draft>, text: &str, count: usize, line: 
     }
 }
 
-/// Whether one of the first so many lines of a text is a date range of this id.
+/// Returns whether one of the first `count` lines of `text` is a date range with this id.
 fn stands_before(alloc: Global, text: &str, count: usize, id: &str) -> bool
     ensures { result ≡ has_id id.now (ranges_of (take count (pieces_at 10 text.now))) }
 {
@@ -156,7 +157,7 @@ fn stands_before(alloc: Global, text: &str, count: usize, id: &str) -> bool
     false
 }
 
-/// Whether a line is a date range of this id.
+/// Returns whether a line is a date range with this id.
 fn has_this_id(alloc: Global, line: &str, id: &str) -> bool
     ensures { result ≡ has_id id.now (ranges_in (line_in line.now)) }
 {

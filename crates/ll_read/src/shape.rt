@@ -1,14 +1,14 @@
-//! Which line may stand where.
+//! The order in which lines are allowed in a playlist.
 ghost use Rattle.std.specs.Prelude.{◌≡◌};
 ghost use Rattle.ll_line.specs.Meaning.{meant};
 ghost use Rattle.ll_read.specs.Shape as spec;
 
 use ll_line::Line;
 
-/// After which line one stands.
+/// The place of the next line in a playlist.
 #[derive(Clone, Copy)]
 pub(crate) enum Stage {
-    /// After none.
+    /// Before the first line.
     AtStart,
     /// After the first line, and so on for each line of the header.
     AfterFirst,
@@ -17,11 +17,11 @@ pub(crate) enum Stage {
     AfterControl,
     AfterPartTarget,
     AfterMediaSequence,
-    /// After the header and perhaps date ranges.
+    /// After the header or a date range.
     InRanges,
     /// After the skip line, or the URI of a segment.
     BetweenSegments,
-    /// After a discontinuity, which a segment begins with.
+    /// After a discontinuity, with which a segment begins.
     AfterDiscontinuity,
     /// After a map.
     AfterMap,
@@ -31,22 +31,22 @@ pub(crate) enum Stage {
     InParts,
     /// After a segment's duration.
     AfterDuration,
-    /// After a report of another rendition.
+    /// After a Rendition Report.
     InReports,
     /// After the last line.
     AtEnd,
 }
 
-/// Where in a playlist one stands, with just what decides which line may follow.
+/// What decides which line is allowed next in a playlist, and nothing more.
 #[derive(Clone, Copy)]
 pub(crate) struct Shape {
     pub(crate) stage: Stage,
-    /// Whether the segments may end where no segment is open: after a skip line there has to be one.
+    /// Whether the segments can end here: after a skip line not before a finished segment has come.
     pub(crate) may_end: bool,
 }
 
 impl Shape {
-    /// Before the first line.
+    /// Returns the shape before the first line.
     pub(crate) fn start() -> Shape
         ensures { result ≡ spec.at_start }
     {
@@ -56,8 +56,7 @@ impl Shape {
         }
     }
 
-    /// Where one stands after one more line, where it may stand here. Of a date range it has to be told whether its id is
-    /// new.
+    /// Returns the shape after one more line, or `None` if it isn't allowed here. `is_new` says whether the id of a date range is new.
     pub(crate) fn next(self, line: &Line<'_>, is_new: bool) -> Option<Shape>
         ensures { result ≡ spec.shape_next self (meant line.now) is_new }
     {
@@ -70,7 +69,7 @@ impl Shape {
         }
     }
 
-    /// Where one kind of line alone may follow.
+    /// Returns the shape after the next line of the header, or of a segment outside its parts.
     fn in_order(self, line: &Line<'_>) -> Option<Shape>
         ensures { result ≡ spec.in_order self.stage (meant line.now) self }
     {
@@ -102,8 +101,8 @@ impl Shape {
         }
     }
 
-    /// Among the date ranges, or after the header. The first segment of a full playlist has a map, and a delta update has a
-    /// segment of its own.
+    /// Returns the shape after a line that follows the header or a date range. The first segment of a full playlist has a map, and a delta update has
+    /// a finished segment of its own.
     fn in_ranges(self, line: &Line<'_>, is_new: bool) -> Option<Shape>
         ensures { result ≡ spec.in_ranges (meant line.now) is_new self }
     {
@@ -121,7 +120,7 @@ impl Shape {
         }
     }
 
-    /// After the skip line or a segment.
+    /// Returns the shape after a line that follows the skip line or a segment.
     fn between_segments(self, line: &Line<'_>) -> Option<Shape>
         ensures { result ≡ spec.between_segments (meant line.now) self }
     {
@@ -133,7 +132,7 @@ impl Shape {
         }
     }
 
-    /// After a part of a segment, which may stay open.
+    /// Returns the shape after a line that follows a part; its segment can stay open.
     fn in_parts(self, line: &Line<'_>) -> Option<Shape>
         ensures { result ≡ spec.in_parts (meant line.now) self }
     {
@@ -145,7 +144,7 @@ impl Shape {
         }
     }
 
-    /// After all segments.
+    /// Returns the shape after a line that follows all segments.
     fn after_segments(self, line: &Line<'_>) -> Option<Shape>
         ensures { result ≡ spec.after_segments (meant line.now) self }
     {
@@ -156,7 +155,7 @@ impl Shape {
         }
     }
 
-    /// At this stage.
+    /// Returns the shape at `stage`.
     fn to(self, stage: Stage) -> Shape
         ensures { result ≡ spec.to stage self }
     {

@@ -11,7 +11,7 @@ use ll_line::{Control, DateTime, Line, Uri, push_line, push_skip};
 use std::alloc::{AllocError, Global};
 
 impl Playlist {
-    /// The text of this playlist; LF ends each line (section 4).
+    /// Writes the text of the playlist, with LF at the end of each line (section 4).
     pub fn write(&self, alloc: Global) -> Result<Text, AllocError>
         ensures { IfOk result (λ text. text ≡ spelling self.now) }
     {
@@ -24,7 +24,7 @@ impl Playlist {
         Ok(Text::from_string(text))
     }
 
-    /// Adds the lines that stand before all date ranges and segments.
+    /// Appends the lines before all date ranges and segments.
     pub fn push_head(&self, text: &mut String) -> Result<(), AllocError>
         ensures { OnOk result (string_bytes text.new ≡ string_bytes text.old ++ text_of (head_lines self.now)) }
     {
@@ -33,7 +33,7 @@ impl Playlist {
         push_line(text, &Line::DiscontinuitySequence(self.discontinuity))
     }
 
-    /// Adds a line for each date range.
+    /// Appends a line for each date range.
     pub fn push_ranges(&self, text: &mut String) -> Result<(), AllocError>
         ensures { OnOk result (string_bytes text.new ≡ string_bytes text.old ++ text_of (map says.DateRange self.now.ranges)) }
     {
@@ -45,7 +45,7 @@ impl Playlist {
         Ok(())
     }
 
-    /// Adds the line that stands for skipped segments, where there are any.
+    /// Appends the line that stands for skipped segments, if there is one.
     fn push_skip(&self, alloc: Global, text: &mut String) -> Result<(), AllocError>
         ensures { OnOk result (string_bytes text.new ≡ string_bytes text.old ++ text_of (skip_lines self.now.skipped)) }
     {
@@ -55,7 +55,7 @@ impl Playlist {
         }
     }
 
-    /// Adds the lines that stand after all finished segments.
+    /// Appends the lines after all finished segments.
     #[tactic(auto, using(ll_line::proofs::Texts::tail_texts))]
     pub fn push_tail(&self, text: &mut String) -> Result<(), AllocError>
         ensures { OnOk result (string_bytes text.new ≡ string_bytes text.old ++ text_of (tail_lines self.now)) }
@@ -67,7 +67,7 @@ impl Playlist {
 }
 
 impl Header {
-    /// Adds its lines.
+    /// Appends the lines of the header.
     fn push_lines(&self, text: &mut String) -> Result<(), AllocError>
         ensures { OnOk result (string_bytes text.new ≡ string_bytes text.old ++ text_of (header_lines self.now)) }
     {
@@ -85,7 +85,7 @@ impl Header {
 }
 
 impl Block {
-    /// Adds its lines.
+    /// Appends the lines of the block.
     fn push_lines(&self, text: &mut String) -> Result<(), AllocError>
         ensures { OnOk result (string_bytes text.new ≡ string_bytes text.old ++ text_of (block_lines self.now)) }
     {
@@ -95,7 +95,7 @@ impl Block {
         self.push_parts(text)
     }
 
-    /// Adds a line for each part.
+    /// Appends a line for each part.
     pub fn push_parts(&self, text: &mut String) -> Result<(), AllocError>
         ensures { OnOk result (string_bytes text.new ≡ string_bytes text.old ++ text_of (map says.Part self.now.parts)) }
     {
@@ -112,7 +112,7 @@ impl Block {
 }
 
 impl Finished {
-    /// Adds its lines.
+    /// Appends the lines of the segment.
     fn push_lines(&self, text: &mut String) -> Result<(), AllocError>
         ensures { OnOk result (string_bytes text.new ≡ string_bytes text.old ++ text_of (segment_lines self.now)) }
     {
@@ -122,7 +122,7 @@ impl Finished {
     }
 }
 
-/// Adds the line of a discontinuity, where the segment is broken from the one before it.
+/// Appends the line of a discontinuity, if the segment begins with one.
 fn push_break(text: &mut String, broken: bool) -> Result<(), AllocError>
     ensures { OnOk result (string_bytes text.new ≡ string_bytes text.old ++ text_of (break_lines broken)) }
 {
@@ -133,7 +133,7 @@ fn push_break(text: &mut String, broken: bool) -> Result<(), AllocError>
     }
 }
 
-/// Adds the line of a map, where there is one.
+/// Appends the line of a map, if there is one.
 fn push_map(text: &mut String, uri: Option<&Text>) -> Result<(), AllocError>
     ensures { OnOk result (string_bytes text.new ≡ string_bytes text.old ++ text_of (map_lines (option_map (λ uri. uri.now) uri.entry))) }
 {
@@ -143,7 +143,7 @@ fn push_map(text: &mut String, uri: Option<&Text>) -> Result<(), AllocError>
     }
 }
 
-/// Adds the line of a skip.
+/// Appends the line of a skip.
 fn push_skip_line(alloc: Global, text: &mut String, skip: &Skip) -> Result<(), AllocError>
     ensures { OnOk result (string_bytes text.new ≡ string_bytes text.old ++ line_text (says.Skipped skip.now)) }
 {
@@ -154,7 +154,7 @@ fn push_skip_line(alloc: Global, text: &mut String, skip: &Skip) -> Result<(), A
     push_skip(alloc, text, skip.count, removed)
 }
 
-/// Adds the lines of segments.
+/// Appends the lines of finished segments.
 fn push_segments(text: &mut String, segments: &[Finished]) -> Result<(), AllocError>
     ensures { OnOk result (string_bytes text.new ≡ string_bytes text.old ++ text_of (flat_map segment_lines segments.now)) }
 {
@@ -164,7 +164,7 @@ fn push_segments(text: &mut String, segments: &[Finished]) -> Result<(), AllocEr
     Ok(())
 }
 
-/// Adds the lines of the open segment, where there is one.
+/// Appends the lines of the open segment, if there is one.
 fn push_open(text: &mut String, block: Option<&Block>) -> Result<(), AllocError>
     ensures { OnOk result (string_bytes text.new ≡ string_bytes text.old ++ text_of (open_lines (option_map (λ block. block.now) block.entry))) }
 {
@@ -174,7 +174,7 @@ fn push_open(text: &mut String, block: Option<&Block>) -> Result<(), AllocError>
     }
 }
 
-/// Adds a line for each report.
+/// Appends a line for each Rendition Report.
 fn push_reports(text: &mut String, reports: &[Report]) -> Result<(), AllocError>
     ensures { OnOk result (string_bytes text.new ≡ string_bytes text.old ++ text_of (map says.RenditionReport reports.now)) }
 {
@@ -189,7 +189,7 @@ fn push_reports(text: &mut String, reports: &[Report]) -> Result<(), AllocError>
     Ok(())
 }
 
-/// Adds the hint of the part that comes next, or the end.
+/// Appends the Preload Hint, or the end if there is none.
 fn push_last_line(text: &mut String, hint: Option<&Text>) -> Result<(), AllocError>
     ensures { OnOk result (string_bytes text.new ≡ string_bytes text.old ++ line_text (last_line (option_map (λ uri. uri.now) hint.entry))) }
 {

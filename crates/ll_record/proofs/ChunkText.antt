@@ -32,7 +32,7 @@ its_channel ch c is = (bytes_eq-Decides ch.settings.channel c.channel).1 (ap (λ
 none_more : (n m : ℕ) → m ≡ 0 → n + m ≡ n
 none_more n m e = omega (arith, e)
 
--- A chunk goes on with a chain of these events; where there are none, it begins another one after the same entries.
+-- A chunk goes on with a chain of these events; if there are none, it begins another one after the same entries.
 goes_on : (c : Configuration) (ch : Chain) (events after : List Event) (lines : List ℕ) → limit_broken c ≡ None → is_utf8 (settings_line c) ≡ true
     → length events ≤ most → IsLed c events lines after → ch.events ≡ events → ch.settings ≡ c
     → IsChunkOf (Some ch) (chunk_text c (length events) lines) (chain_of c ch.earlier after)

@@ -124,7 +124,7 @@ recorded-new h channel c lines e none =
     (subst (λ text. IsRecorded (record { room = room_value channel c (state_of c []); at = 0; lines = text; calls = 0 }) []) (sym none)
     (record { stands = refl; early = omega arith; led = nothing c []; calls = refl; told = refl; spelled = refl }))
 
--- the record begins anew: nothing is told of what happened before
+-- the record begins anew: it has nothing of what happened before
 pub recorded-anew : (r : Recording) (n : ℕ) (lines : List ℕ) (events : List Event) → n ≡ r.room.events → lines ≡ [] → IsRecorded r events
     → IsRecorded (record { room = r.room; at = n; lines = lines; calls = 0 }) events
 recorded-anew r n lines events all none s =

@@ -1,4 +1,4 @@
--- The first rule that refuses an item, as a recorder tells it.
+-- The first rule that refuses an item, as a recorder returns it.
 use Rattle.std.proofs.Common.{◌≡◌, ℕ, ◌<◌, ◌≤◌, List, true, false, Some, None, ap, ap₂, ◌∙◌, sym, subst, nat_le, arith}
 use Rattle.std.proofs.lemmas.Bool.Decides.{nat_tests}
 use Rattle.ll_item.specs.declared.item.Item.{Item}

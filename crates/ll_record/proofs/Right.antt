@@ -40,7 +40,7 @@ not_full h events st f = ap (λ n. is_full n) (sym (ap (λ (x : RoomValue). x.ev
 pub publish-right : (c : Configuration) (events : List Event) (item : Item) → refusal_after c events item ≡ None → fault_in Two c events (recorded.Publish item) ≡ None
 publish-right c events item h = ap unless_refused h
 
--- the format that is written tells all of what a reply at once comes to
+-- the format that is written has the whole result of a reply at once
 whole : (o : Option Reply) → option_map outcome_of o ≡ option_map (λ r. told_in Two (outcome_of r)) o
 whole None = refl
 whole (Some r) = ap Some (sym (whole-outcome (outcome_of r)))
@@ -63,7 +63,7 @@ pub clock-right : (h : RoomValue) (events : List Event) (ms : ℕ) → Stands h 
 clock-right h events ms st f e =
     right (nat_le ms (2 ^ 60) && not (is_full (length events))) true (ap₂ (λ a b. a && not b) (at_most ms (2 ^ 60) e) (not_full h events st f)) refl
 
--- ---- what becomes of held requests
+-- ---- how held requests end
 
 abbrev value_in : Collected → Option Reply
 value_in (Got m) = Some m.value

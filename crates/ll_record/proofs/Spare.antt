@@ -1,4 +1,4 @@
--- Each open request can be told of once more: the memory for it is there.
+-- Each open request can have its last line: the memory for it is there.
 use Rattle.std.proofs.Common.{◌≡◌, ℕ, ◌+◌, ◌*◌, ◌≤◌, ◌==◌, ◌||◌, List, [], ◌∷◌, ◌++◌, Bool, true, false, not, cond, ap, refl, ◌∙◌, sym, subst, true≢false, length, map, arith}
 use Rattle.std.proofs.lemmas.List.{length-append, length-map}
 use Rattle.std.specs.List.{list_any}

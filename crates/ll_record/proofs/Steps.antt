@@ -1,4 +1,4 @@
--- Each call, from what its parts tell.
+-- Each call, from the contracts of its parts.
 use Rattle.std.proofs.Common.{◌≡◌, ℕ, ◌+◌, ◌*◌, ◌≤◌, ◌^◌, List, [], ◌∷◌, ◌++◌, Bool, None, true, false, Option, refl, ap, ◌∙◌, sym, subst, length, option_map}
 use Rattle.std.specs.Str.{is_utf8}
 use Rattle.ll_entry.specs.Entered.{event_of, fault_in}
@@ -63,7 +63,7 @@ pub asked-same : (b : Bool) (ask : ℕ) (c : Configuration) (want : WantValue) (
 asked-same true ask c want reply = refl
 asked-same false ask c want reply = refl
 
--- what a channel comes to with a request doesn't depend on the channel's name in it
+-- a request has the same effect on a channel, whatever name of a channel it bears
 renamed : (h : RoomValue) (c : Configuration) (events : List Event) (want : WantValue) → Stands h (events ++ Ask want ∷ [])
     → Stands h (events ++ Ask (of_channel c want) ∷ [])
 renamed h c events want st =

@@ -8,7 +8,7 @@ use Rattle.ll_record.specs.Recording.{Recording}
 
 pub record ChunkValue : Type 0 where
   pub text : List ℕ
-  -- how many entries it has
+  -- the number of its entries
   pub entries : ℕ
 
 -- the chunk of a record
@@ -16,8 +16,9 @@ pub record IsChunk (r : Recording) (k : ChunkValue) : Type 0 where
   pub text : k.text ≡ chunk_text r.room.settings r.at r.lines
   pub entries : r.at + k.entries ≡ r.room.events
 
--- The chunk of a record is right after a chain that has told the events before the record, which then has all of these events, with zeros in place of
--- bytes; and where the record is the first of its channel, after any chains of the channel, of an earlier start of the program.
+-- The chunk of a record is right after a chain with the events before the record; with it the chain has all of these events, with zeros in
+-- place of bytes. If the record is the first of its channel, it is also right after any chains of the channel, of an earlier start of the
+-- program.
 pub record IsFaithful (r : Recording) (events : List Event) (k : ChunkValue) : Type 0 where
   pub goes_on : (ch : Chain) → ch.events ≡ blank_events (take r.at events) → ch.settings ≡ r.room.settings
       → IsChunkOf (Some ch) k.text (chain_of r.room.settings ch.earlier (blank_events events))

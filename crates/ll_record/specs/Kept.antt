@@ -9,11 +9,11 @@ pub record Buffer : Type 0 where
   -- bytes
   pub free : ℕ
 
--- how many bytes are kept for the line that hands a reply out or gives a request up, with its end
+-- the bytes that are reserved for the line that hands a reply out or closes a request, with its end
 abbrev pub spare : ℕ
 spare = 80
 
--- the record is that of some events, and each open request can be told of once more without memory
+-- the record is that of some events, and there is memory for the last line of each open request
 pub record IsKept (r : Recording) (free : ℕ) : Type 0 where
   pub events : List Event
   pub recorded : IsRecorded r events

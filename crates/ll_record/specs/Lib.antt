@@ -1,3 +1,4 @@
+-- The definitions that the contracts of this crate cite.
 pub mod Chunk
 pub mod Kept
 pub mod Recording

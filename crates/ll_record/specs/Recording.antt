@@ -16,14 +16,14 @@ use Rattle.ll_rendition.specs.declared.fault.PublishFault.{PublishFault}
 pub record Recording : Type 0 where
   -- what is kept of the channel
   pub room : RoomValue
-  -- how many events there were when its record was last handed out
+  -- the number of events when its record was last handed out
   pub at : ℕ
   -- the lines of the events since then, each with its end
   pub lines : List ℕ
-  -- how many of these events count towards what a record holds
+  -- the number of these events that count towards the limit of a record
   pub calls : ℕ
 
--- what a record holds of items, requests and readings; replies that are handed out and requests that are given up don't count
+-- the most items, requests and readings of a record; replies that are handed out and requests that are closed don't count
 abbrev pub record_end : ℕ
 record_end = 65536
 
@@ -34,8 +34,9 @@ is_call (Clock ms) = true
 is_call (Collect ask) = false
 is_call (Close ask) = false
 
--- The recorded channel has had these events: a check of the record's lines goes on from the events before them to all of these, of which it knows
--- the bytes by their number alone, and these lines are no other than those of the events since then, of which each can happen after those before it.
+-- The recorded channel has had these events: a check of the record's lines goes on from the events before them to all of these, of which it
+-- knows the bytes by their number alone; and these lines are exactly those of the events since then, each of which can happen after those
+-- before it.
 pub record IsRecorded (r : Recording) (events : List Event) : Type 0 where
   pub stands : Stands r.room events
   pub early : r.at ≤ length events
@@ -44,7 +45,7 @@ pub record IsRecorded (r : Recording) (events : List Event) : Type 0 where
   pub told : list_all (can_happen r.room.settings) (drop r.at (steps events)) ≡ true
   pub spelled : r.lines ≡ flat_map (line_of r.room.settings) (drop r.at (steps events))
 
--- whether the record holds as much as a record holds
+-- whether the record is full
 abbrev pub is_record_full : Recording → Bool
 is_record_full r = nat_le record_end r.calls
 

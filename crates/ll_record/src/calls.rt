@@ -25,8 +25,8 @@ use ll_verdict::{ClockFault, Outcome, PublishFault};
 use std::alloc::{AllocError, Global};
 
 impl Recorder {
-    /// Accepts an item, as [`ll_room::Room::publish`] does, or answers the first rule that refuses it; that the record is full comes
-    /// after the others.
+    /// Accepts `item`, as [`ll_room::Room::publish`] does, or returns the first rule that refuses it; that the record is full comes after
+    /// the other rules, and Memory last.
     pub fn publish(&mut self, item: Item) -> Result<Stamped<u64>, PublishFault>
         ensures accepted { (events : List Event) → IsRecorded self.old events → OnOk result
             ((record_refusal self.old events item ≡ None) × IsRecorded self.new (events ++ Publish item ∷ [])) }
@@ -48,7 +48,7 @@ impl Recorder {
         }
     }
 
-    /// The first rule that refuses an item; that the record is full comes after the others.
+    /// Returns the first rule that refuses `item`; that the record is full comes after the other rules.
     fn test(&self, item: &Item) -> Result<(), PublishFault>
         ensures allowed { OnOk result (refusal_by self.now.room item.now ≡ None) }
         ensures space { OnOk result (self.now.calls < record_end) }
@@ -65,7 +65,7 @@ impl Recorder {
         Ok(())
     }
 
-    /// Accepts an item that nothing refuses, as [`Recorder::test`] tells. If no memory is found, nothing changes.
+    /// Accepts `item`, which [`Recorder::test`] doesn't refuse. If out of memory, nothing changes.
     fn take_in(&mut self, item: Item) -> Result<Stamped<u64>, AllocError>
         requires allowed { refusal_by self.old.room item ≡ None }
         requires space { self.old.calls < record_end }
@@ -82,6 +82,7 @@ impl Recorder {
             at: _,
             calls,
         } = self;
+        // Serves the proof alone.
         room.settings().within_limits();
         let line = item_line(*alloc, room, lines, &item)?;
         let count = room.accept(item)?;
@@ -90,7 +91,7 @@ impl Recorder {
         Ok(count)
     }
 
-    /// Makes a request, as [`ll_room::Room::ask`] does.
+    /// Makes the request `want`, as [`ll_room::Room::ask`] does.
     pub fn ask(&mut self, want: Want) -> Result<Asked, AskFault>
         ensures answer { (events : List Event) → IsRecorded self.old events
             → IfOk result (λ a. a ≡ asked self.old.room want (at_once self.old.room.settings (held self.old.room.settings events) events want)) }
@@ -113,7 +114,7 @@ impl Recorder {
         }
     }
 
-    /// Makes a request, which can still be recorded. If no memory is found, nothing changes.
+    /// Makes the request `want`, which can still be recorded. If out of memory, nothing changes.
     fn make_request(&mut self, want: Want) -> Result<Asked, AllocError>
         requires few { is_full self.old.room.events ≡ false }
         requires space { self.old.calls < record_end }
@@ -133,6 +134,7 @@ impl Recorder {
             at: _,
             calls,
         } = self;
+        // Serves the proof alone.
         room.settings().within_limits();
         let decision = room.decide(&want);
         let outcome = decision.outcome(room);
@@ -143,7 +145,8 @@ impl Recorder {
         Ok(asked)
     }
 
-    /// A reading of the clock, in milliseconds, as [`ll_room::Room::clock`] takes it.
+    /// Takes a reading of the clock, in milliseconds, as [`ll_room::Room::clock`] does. The first of these that applies refuses it:
+    /// ClockRange, RecordFull, Memory.
     pub fn clock(&mut self, ms: u64) -> Result<(), ClockFault>
         ensures passed { (events : List Event) → IsRecorded self.old events → OnOk result (IsRecorded self.new (events ++ Clock ms ∷ [])) }
         ensures within { OnOk result ((ms ≤ 2 ^ 60) × ((is_record_full self.old || is_full self.old.room.events) ≡ false)) }
@@ -169,6 +172,7 @@ impl Recorder {
         if *calls >= RECORD_END || room.is_full() {
             return Err(ClockFault::RecordFull);
         }
+        // Serves the proof alone.
         room.settings().within_limits();
         let line = clock_line(ms);
         let Ok(()) = lines.reserve(line.len(), room.open_requests()) else {
@@ -185,7 +189,7 @@ impl Recorder {
     }
 }
 
-/// The line of an item, once memory for it in the record is found too.
+/// Returns the line of `item`, for which it has reserved memory in the record.
 fn item_line(
     alloc: Global,
     room: &Room,
@@ -203,8 +207,8 @@ fn item_line(
     Ok(line)
 }
 
-/// The line of a request, of which this is what it gets at once, once memory is found for it in the record too, and for the last line
-/// of one more open request.
+/// Returns the line of `want` with `outcome`, its result at once, for which it has reserved memory in the record, and for the last line of
+/// one more open request.
 fn request_line(
     alloc: Global,
     room: &Room,

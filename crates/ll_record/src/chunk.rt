@@ -10,8 +10,7 @@ use ll_item::Settings;
 use std::alloc::{AllocError, Global};
 use std::marker::Model;
 
-/// A record that was handed out, in the form that `check` reads. The chunks of a channel, one after another from its start on, are a
-/// faithful chain.
+/// A record that was handed out, in the form that `check` reads. The chunks of a channel, in order from its start on, are a faithful chain.
 #[derive(Drop)]
 pub struct Chunk {
     text: Vec<u8>,
@@ -27,7 +26,7 @@ impl Model for Chunk {
 }
 
 impl Chunk {
-    /// The chunk of these lines of so many entries of a channel, which had so many before.
+    /// Returns the chunk of `lines`, which are `entries` entries of a channel that had `at` entries before.
     pub(crate) fn new(
         alloc: Global,
         settings: &Settings,
@@ -44,14 +43,14 @@ impl Chunk {
         Ok(Chunk { text, entries })
     }
 
-    /// Its text: three lines that say whose it is and where it stands, a line for each entry, and the line `#END`.
+    /// Returns its text: three lines that say whose it is and where it continues, a line for each entry, and the line `#END`.
     pub fn bytes(&self) -> &[u8]
         ensures { result.now ≡ self.now.text }
     {
         &self.text
     }
 
-    /// How many entries it has.
+    /// Returns the number of its entries.
     pub fn entries(&self) -> u64
         ensures { result ≡ self.now.entries }
     {
@@ -59,7 +58,7 @@ impl Chunk {
     }
 }
 
-/// The whole text of a chunk with these first three lines.
+/// Returns the whole text of a chunk whose first three lines are `header`.
 fn whole(alloc: Global, header: &[u8], lines: &[u8]) -> Result<Vec<u8>, AllocError>
     ensures { IfOk result (λ t. t.items ≡ header.now ++ (lines.now ++ (last_line ++ codes "\n"))) }
 {

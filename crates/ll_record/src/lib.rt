@@ -1,5 +1,5 @@
-//! A channel whose events are recorded: each accepted item, request and reading, each reply that is handed out and each request that
-//! is given up has a line, and these lines are handed out in chunks, which a check finds right on any machine.
+//! A channel whose events are recorded: each accepted item, request and reading, each reply that is handed out and each request that is
+//! closed has a line. These lines are handed out in chunks, which a check finds right on any machine.
 #![tactic(auto)]
 
 mod calls;

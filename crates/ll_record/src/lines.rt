@@ -1,4 +1,4 @@
-//! The lines of a record, in memory that is found before an event and not after it.
+//! The lines of a record, in memory that is reserved before an event and not after it.
 ghost use Rattle.std.specs.Prelude.{◌≡◌, ◌≤◌, ◌+◌, ◌*◌, ◌++◌, [], OnOk, length, string_bytes, true};
 ghost use Rattle.std.specs.Str.{is_utf8};
 ghost use Rattle.ll_record.specs.Kept.{spare};
@@ -7,7 +7,7 @@ ghost use Rattle.ll_entry.specs.Leads.{with_end};
 use std::alloc::{AllocError, Global};
 use std::marker::Model;
 
-/// How many bytes are kept, for each open request, for the line that hands its reply out or gives it up, with its end.
+/// The bytes that are reserved, for each open request, for the line that hands its reply out or closes it, with its end.
 const SPARE: usize = 80;
 
 /// Lines, each with its end.
@@ -26,7 +26,7 @@ impl Model for Lines {
 }
 
 impl Lines {
-    /// No lines, and no memory.
+    /// Returns no lines, without memory.
     pub(crate) fn new(alloc: Global) -> Lines
         ensures { result.lines ≡ [] }
     {
@@ -35,7 +35,7 @@ impl Lines {
         }
     }
 
-    /// Finds memory for a line of so many bytes with its end, and for the last line of each of so many open requests.
+    /// Reserves memory for a line of `line` bytes and its end, and for the last line of each of `requests` open requests.
     pub(crate) fn reserve(&mut self, line: usize, requests: usize) -> Result<(), AllocError>
         ensures free { OnOk result (line + 1 + spare * requests ≤ self.new.free) }
         ensures no_less { self.old.free ≤ self.new.free }
@@ -46,7 +46,7 @@ impl Lines {
         self.text.reserve(bytes.checked_add(1).ok_or(AllocError)?)
     }
 
-    /// Adds a line and its end, in memory that is there.
+    /// Adds `line` and its end, in reserved memory.
     #[tactic(auto, using(crate::proofs::Texts::is_text))]
     pub(crate) fn put(&mut self, line: &str)
         requires { length line.now + 1 ≤ self.old.free }
@@ -60,7 +60,7 @@ impl Lines {
         self.text.push_reserved(b'\n');
     }
 
-    /// Adds this line and its end, in memory that is there. The line's own memory is given back here, so that who writes it need not keep it to its end.
+    /// Adds `line` and its end, in reserved memory. Frees the line, so that the caller need not keep it to its end.
     pub(crate) fn put_line(&mut self, line: String)
         requires { length (string_bytes line) + 1 ≤ self.old.free }
         ensures lines { self.new.lines ≡ self.old.lines ++ with_end (string_bytes line) }
@@ -70,14 +70,14 @@ impl Lines {
         self.put(line.as_str());
     }
 
-    /// The lines.
+    /// Returns the lines.
     pub(crate) fn text(&self) -> &[u8]
         ensures { result.now ≡ self.now.lines }
     {
         &self.text
     }
 
-    /// Forgets the lines; their memory is kept for others.
+    /// Removes the lines, and keeps their memory for others.
     pub(crate) fn clear(&mut self)
         ensures lines { self.new.lines ≡ [] }
         ensures no_less { self.old.free ≤ self.new.free }

@@ -1,3 +1,4 @@
+//! A room whose events are recorded, and how its record is handed out.
 ghost use Rattle.std.specs.Prelude.{◌≡◌, [], List, IfOk, OnErr, OnOk};
 ghost use Rattle.ll_record.specs.Chunk.{IsChunk, IsFaithful, emptied};
 ghost use Rattle.ll_record.specs.Recording.{IsRecorded};
@@ -12,20 +13,20 @@ use ll_room::Room;
 use std::alloc::{AllocError, Global};
 use std::marker::Model;
 
-/// How many items, requests and readings a record holds.
+/// The most items, requests and readings in a record.
 pub(crate) const RECORD_END: u64 = 65_536;
 
-/// A room, and the record of its events since the record was last handed out. The record holds 65,536 items, requests and readings;
-/// then each further one is refused as RecordFull until the record is handed out. Replies are still handed out and requests given up:
-/// the memory for their lines is found when a request is made.
+/// A room, and the record of its events since the record was last handed out. The record holds 65,536 items, requests and readings; then
+/// each further one is refused as RecordFull until the record is handed out. Replies are still handed out and requests closed: the memory
+/// for their lines is reserved when a request is made.
 #[derive(Drop)]
 pub struct Recorder {
     pub(crate) alloc: Global,
     pub(crate) room: Room,
     pub(crate) lines: Lines,
-    /// How many events there were before the record.
+    /// The number of events before the record.
     pub(crate) at: u64,
-    /// How many items, requests and readings the record has.
+    /// The number of items, requests and readings in the record.
     pub(crate) calls: u64,
 }
 
@@ -41,7 +42,7 @@ impl Model for Recorder {
 }
 
 impl Recorder {
-    /// The recorder of a room of this number for a channel of these settings, to which nothing has happened.
+    /// Returns the recorder of a room with the number `channel` and these settings, to which nothing has happened.
     pub fn new(alloc: Global, channel: u64, settings: Settings) -> Result<Recorder, AllocError>
         ensures new { IfOk result (λ r. r ≡ record { room = room_value channel settings (state_of settings []); at = 0; lines = []; calls = 0 }) }
         ensures recorded { IfOk result (λ r. IsRecorded r []) }
@@ -55,14 +56,14 @@ impl Recorder {
         })
     }
 
-    /// The room, to read what is kept of the channel.
+    /// Returns the room, to read what is kept of the channel.
     pub fn room(&self) -> &Room
         ensures { result.now ≡ self.now.room }
     {
         &self.room
     }
 
-    /// Hands the record out, and begins another. No reply changes by it. If no memory is found, nothing changes.
+    /// Hands out the record, and begins another. No reply changes by it. If out of memory, nothing changes.
     pub fn rotate(&mut self) -> Result<Chunk, AllocError>
         ensures chunk { IfOk result (λ k. IsChunk self.old k) }
         ensures faithful { (events : List Event) → IsRecorded self.old events → IfOk result (λ k. IsFaithful self.old events k) }
@@ -77,6 +78,7 @@ impl Recorder {
             at,
             calls,
         } = self;
+        // Serves the proof alone.
         room.settings().within_limits();
         let events = room.events();
         let chunk = Chunk::new(*alloc, room.settings(), *at, lines.text(), events - *at)?;

@@ -1,4 +1,4 @@
-//! What becomes of held requests, each with its line.
+//! How held requests end, each with its line.
 ghost use Rattle.std.specs.Prelude.{◌≡◌, ◌++◌, ◌∷◌, [], List, false, true};
 ghost use Rattle.ll_record.specs.Recording.{GoesOn, IsRecorded};
 ghost use Rattle.ll_room.specs.Answers as answers;
@@ -26,6 +26,7 @@ impl Recorder {
             at: _,
             calls: _,
         } = self;
+        // Serves the proof alone.
         room.settings().within_limits();
         let ticket = parked.ticket();
         let reply = match room.collect(parked) {
@@ -37,7 +38,7 @@ impl Recorder {
         Collected::Got(reply)
     }
 
-    /// Gives a held request up, as [`ll_room::Room::close`] does. It takes no memory.
+    /// Closes a held request, as [`ll_room::Room::close`] does. It takes no memory.
     pub fn close(&mut self, parked: Parked) -> Closed
         ensures answer { result ≡ answers.closed self.old.room parked }
         ensures given_up { answers.is_done result ≡ true → (events : List Event) → IsRecorded self.old events
@@ -53,6 +54,7 @@ impl Recorder {
             at: _,
             calls: _,
         } = self;
+        // Serves the proof alone.
         room.settings().within_limits();
         let ticket = parked.ticket();
         match room.close(parked) {

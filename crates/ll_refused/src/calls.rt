@@ -1,40 +1,40 @@
-//! Calls of a recorded channel for whose memory nothing is found.
-use ll_trial::{Answer, LAST, Made, NOW, PART, Row, SECOND, SEGMENT, Tools, item, want};
+//! Calls of a recorded channel, with one allocation after another refused.
+use ll_trial::{CallResult, LAST, Made, NOW, PART, Row, SECOND, SEGMENT, Tools, item, want};
 use std::alloc::Global;
 use std::sync::Wait;
 
-/// A call of a channel that has one part and three requests which wait for the next.
+/// A call of a channel that has one part and three requests which await the next.
 #[derive(Clone, Copy)]
 pub(crate) enum Call {
-    /// The part that they wait for.
+    /// The part that the requests await is published.
     Publish,
-    /// A further request that waits for it.
+    /// A fourth request for that part is made.
     AskHeld,
-    /// A request that waits for nothing.
+    /// A request that waits for nothing is made.
     AskNow,
-    /// A request for a segment that is finished.
+    /// A request for a finished segment is made.
     AskSegment,
-    /// A reading at which their time is over.
+    /// The clock is read at a time at which the requests time out.
     Clock,
     /// The record is handed out.
     Rotate,
 }
 
 impl Call {
-    /// The call, and what it gets where nothing is refused.
-    fn made(self, alloc: Global) -> Option<(Made, Answer)> {
+    /// Returns the call, and its result if nothing is refused.
+    fn made(self, alloc: Global) -> Option<(Made, CallResult)> {
         Some(match self {
-            Call::Publish => (Made::Publish(item(alloc, PART)?), Answer::Accepted(2)),
-            Call::AskHeld => (Made::Ask(want(alloc, SECOND)?), Answer::Held(4)),
-            Call::AskNow => (Made::Ask(want(alloc, NOW)?), Answer::Text(1)),
-            Call::AskSegment => (Made::Ask(want(alloc, SEGMENT)?), Answer::Media(10)),
-            Call::Clock => (Made::Clock(12_000), Answer::Read),
-            Call::Rotate => (Made::Rotate, Answer::Entries(4)),
+            Call::Publish => (Made::Publish(item(alloc, PART)?), CallResult::Accepted(2)),
+            Call::AskHeld => (Made::Ask(want(alloc, SECOND)?), CallResult::Held(4)),
+            Call::AskNow => (Made::Ask(want(alloc, NOW)?), CallResult::Text(1)),
+            Call::AskSegment => (Made::Ask(want(alloc, SEGMENT)?), CallResult::Media(10)),
+            Call::Clock => (Made::Clock(12_000), CallResult::Read),
+            Call::Rotate => (Made::Rotate, CallResult::Entries(4)),
         })
     }
 
-    /// Finishes the segment, where it is asked for, and uses up the record's memory, so that the call needs more for its line. Handing the record
-    /// out needs none for a line.
+    /// Finishes the segment if it is asked for, and uses up the record's memory, so that the call has to allocate for its line. Handing out the
+    /// record writes no line.
     fn fill<R: Wait>(self, tools: &Tools<'_, R>, row: &mut Row) {
         if let (Call::AskSegment, Some(last)) = (self, item(tools.alloc, LAST)) {
             row.make(Made::Publish(last));
@@ -45,25 +45,25 @@ impl Call {
     }
 }
 
-/// What came of a call.
+/// The result of a call that was tried.
 #[derive(Clone, Copy)]
 pub(crate) struct Tried {
     /// Whether an allocation was refused.
     pub(crate) met: bool,
-    /// Whether Memory was answered.
+    /// Whether the call returned Memory.
     pub(crate) memory: bool,
-    /// What was wrong.
+    /// What was wrong, if anything was.
     pub(crate) fault: Option<&'static str>,
 }
 
-/// Nothing was refused, and what was to come before the call didn't come.
+/// The result if a preparation of the call failed, so that it wasn't made.
 pub(crate) const UNTRIED: Tried = Tried {
     met: false,
     memory: false,
     fault: Some("it wasn't called"),
 };
 
-/// What came of a call that answered Memory or not, and had the right answer in the end.
+/// Returns the result of a call that met a refusal or not (`met`), returned Memory or not (`memory`), and had the right answer in the end or not.
 pub(crate) fn judge(met: bool, memory: bool, is_right: bool) -> Tried {
     let fault = if memory && !met {
         Some("Memory is answered where none was refused")
@@ -75,7 +75,7 @@ pub(crate) fn judge(met: bool, memory: bool, is_right: bool) -> Tried {
     Tried { met, memory, fault }
 }
 
-/// Tries the call with its Nth allocation refused; and where that answers Memory, once more.
+/// Tries the call with its `n`-th allocation refused, and once more if that returns Memory.
 pub(crate) fn try_call<R: Wait>(tools: &Tools<'_, R>, call: Call, n: usize) -> Tried {
     let Some(wanted) = unrefused(tools, call) else {
         return UNTRIED;
@@ -88,7 +88,7 @@ pub(crate) fn try_call<R: Wait>(tools: &Tools<'_, R>, call: Call, n: usize) -> T
     tried.unwrap_or(UNTRIED)
 }
 
-/// What can be read after the call where nothing is refused.
+/// Returns all that can be read after the call if nothing is refused.
 fn unrefused<R: Wait>(tools: &Tools<'_, R>, call: Call) -> Option<String> {
     let mut row = Row::prepared(tools)?;
     let view = view_after(tools, &mut row, call);
@@ -96,7 +96,7 @@ fn unrefused<R: Wait>(tools: &Tools<'_, R>, call: Call) -> Option<String> {
     view
 }
 
-/// Makes the call. What can be read after it.
+/// Makes the call, and returns all that can be read after it.
 fn view_after<R: Wait>(tools: &Tools<'_, R>, row: &mut Row, call: Call) -> Option<String> {
     let (made, _answer) = call.made(tools.alloc)?;
     call.fill(tools, row);
@@ -104,7 +104,7 @@ fn view_after<R: Wait>(tools: &Tools<'_, R>, row: &mut Row, call: Call) -> Optio
     row.view(tools)
 }
 
-/// The call with its Nth allocation refused, after which this is to be read.
+/// Tries the call with its `n`-th allocation refused; `wanted` is what can be read after it if nothing is refused.
 fn refuse<R: Wait>(
     tools: &Tools<'_, R>,
     row: &mut Row,
@@ -118,7 +118,7 @@ fn refuse<R: Wait>(
     tools.refuse(n);
     let mut got = row.make(made);
     let met = tools.end();
-    let memory = got == Answer::Memory;
+    let memory = got == CallResult::Memory;
     let is_changed = memory && row.numbers() != before;
     if memory {
         let (again, _answer) = call.made(tools.alloc)?;

@@ -1,17 +1,17 @@
-//! Calls of a hub that take no memory, tried where every allocation is refused.
+//! Calls of a hub that take no memory, tried with every allocation refused.
 ghost use Rattle.std.specs.Prelude.{◌≡◌};
 
 use crate::calls::{Tried, UNTRIED, judge};
 use ll_hub::{Blanks, Claim, Clock, Hub, HubAsked, Ledgers, Pass};
 use ll_item::Settings;
-use ll_trial::{Answer, CHANNEL, PART, Tools, answer_in, item, want};
+use ll_trial::{CHANNEL, CallResult, PART, Tools, answer_in, item, want};
 use std::marker::Brand;
 use std::sync::Wait;
 
-/// A request for the first part.
+/// The target of a request that awaits the first part.
 const FIRST: &str = "/cam/hi/live.m3u8?_HLS_msn=0&_HLS_part=0";
 
-/// A clock that stands.
+/// A clock that always shows 0.
 #[derive(Clone, Copy)]
 struct Stopped;
 
@@ -23,21 +23,21 @@ impl Clock for Stopped {
     }
 }
 
-/// What becomes of a request of a hub.
+/// How a request of a hub ends.
 #[derive(Clone, Copy, PartialEq, Eq)]
 pub(crate) enum Ending {
-    /// Its reply is there, and is waited for.
+    /// Its reply, which is ready, is waited for.
     Wait,
-    /// It is given up.
+    /// It is closed.
     Close,
 }
 
-/// Ends a request of a hub so while every allocation is refused.
+/// Ends a request of a hub as `ending` says, with every allocation refused.
 pub(crate) fn try_hub<R: Wait>(tools: &Tools<'_, R>, ending: Ending) -> Tried {
     in_hub::<Brand, R>(tools, ending, Blanks::new()).unwrap_or(UNTRIED)
 }
 
-/// Ends a request of a hub of one channel so.
+/// Makes a hub of one channel, and ends a request of it.
 fn in_hub<L: Ledgers, R: Wait>(
     tools: &Tools<'_, R>,
     ending: Ending,
@@ -54,7 +54,7 @@ fn in_hub<L: Ledgers, R: Wait>(
     tried
 }
 
-/// Takes a seat in this hub, and ends a request of it.
+/// Takes a pass of `hub`, and ends a request of it.
 fn seated_in<L: Ledgers, R: Wait>(
     tools: &Tools<'_, R>,
     ending: Ending,
@@ -66,7 +66,7 @@ fn seated_in<L: Ledgers, R: Wait>(
     }
 }
 
-/// Makes a request of this hub, publishes what it waits for, and ends it.
+/// Makes a request, publishes what it awaits, and ends it.
 fn held_in<L: Ledgers, R: Wait>(
     tools: &Tools<'_, R>,
     ending: Ending,
@@ -82,7 +82,7 @@ fn held_in<L: Ledgers, R: Wait>(
     is_there.then_some(tried)
 }
 
-/// Makes a request of this hub that is held.
+/// Makes a request that is held.
 fn held<L: Ledgers, R: Wait>(
     tools: &Tools<'_, R>,
     hub: &Hub<L>,
@@ -96,7 +96,7 @@ fn held<L: Ledgers, R: Wait>(
     }
 }
 
-/// Publishes what the request waits for. Tells whether it is accepted.
+/// Publishes what the request awaits. Returns whether it is accepted.
 fn is_published<L: Ledgers, R: Wait>(
     tools: &Tools<'_, R>,
     hub: &Hub<L>,
@@ -118,7 +118,7 @@ fn wait<L: Ledgers, R: Wait>(
     let waited = hub.wait(tools.rt, pass, claim);
     let met = tools.end();
     let is_right = match waited {
-        Ok(reply) => answer_in(reply) == Answer::Text(1),
+        Ok(reply) => answer_in(reply) == CallResult::Text(1),
         Err(_) => false,
     };
     judge(met, false, is_right)

@@ -1,10 +1,10 @@
-//! Tries calls for whose memory nothing is found, in one process. It has no way to refuse memory: it asks for more than there is, which
-//! a C library that is loaded before it (`tests/refused_calls.c`) takes for orders. Where none is loaded, nothing is refused.
+//! Tries calls with memory refused, in one process. The program can't refuse memory itself: it asks for more than there is, which a C library that is
+//! loaded before it (`tests/refused_calls.c`) takes for orders. Without that library, nothing is refused.
 //!
-//! A line tells of each call how many refusals it met, how often it answered Memory, and `ok`, or what was wrong. Of the first calls one
-//! allocation after another is refused, until none is met: each answers Memory, leaves all as it was, and answers when it is called
-//! again as if nothing had been refused; or what was refused isn't needed for its answer. Of the others every allocation is refused;
-//! they take none, but for one that shows that any was.
+//! It prints a line for each call: how many refusals it met, how often it returned Memory, and `ok` or what was wrong. Of the calls of the first
+//! table, one allocation after another is refused until none is met. Each such call returns Memory, leaves all as it was, and has its usual result if
+//! it is made again; or it does without what was refused. Of the calls of the second table, every allocation is refused. They take no memory, but for
+//! one which shows that allocations are refused at all.
 #![tactic(auto)]
 
 mod calls;
@@ -30,7 +30,7 @@ enum Swept {
     Apply,
 }
 
-/// These calls.
+/// The calls of which one allocation after another is refused, with their names.
 const SWEPT: [(&str, Swept); 9] = [
     ("Recorder::publish", Swept::Channel(Call::Publish)),
     ("Recorder::ask, held", Swept::Channel(Call::AskHeld)),
@@ -51,7 +51,7 @@ enum Refused {
     Hub(Ending),
 }
 
-/// These calls.
+/// The calls of which every allocation is refused, with their names.
 const REFUSED: [(&str, Refused); 9] = [
     ("Recorder::collect", Refused::Held(Steady::Collect)),
     ("Recorder::close", Refused::Held(Steady::Close)),
@@ -67,7 +67,7 @@ const REFUSED: [(&str, Refused); 9] = [
     ("Hub::close", Refused::Hub(Ending::Close)),
 ];
 
-/// More allocations than a call makes.
+/// More allocations than any call makes.
 const MOST: usize = 10_000;
 
 fn main(rt: HostRuntime) {
@@ -84,7 +84,7 @@ fn main(rt: HostRuntime) {
     }
 }
 
-/// Tries all calls, and tells of each.
+/// Tries all calls, and prints the line of each.
 fn try_all<R: Print + Wait>(tools: &Tools<'_, R>) {
     let texts = Texts::new(tools);
     for (name, call) in SWEPT {
@@ -95,7 +95,7 @@ fn try_all<R: Print + Wait>(tools: &Tools<'_, R>) {
     }
 }
 
-/// What is told of a call.
+/// What the line of a call says.
 #[derive(Drop)]
 struct Told {
     met: u64,
@@ -103,7 +103,7 @@ struct Told {
     fault: &'static str,
 }
 
-/// What is told of a call that was tried once.
+/// Returns what the line says of a call that was tried once.
 fn told_of(tried: Tried) -> Told {
     Told {
         met: u64::from(tried.met),
@@ -117,7 +117,7 @@ fn tell(rt: &impl Print, name: &str, told: Told) {
     let _ = println!(rt; "{name}: {} {} {}", told.met, told.memory, told.fault);
 }
 
-/// Tries the call with each of its allocations refused, up to the first that does what it shouldn't.
+/// Tries the call with each of its allocations refused in turn, up to the first fault.
 fn sweep<R: Wait>(tools: &Tools<'_, R>, texts: Option<&Texts>, call: Swept) -> Told {
     let mut told = Told {
         met: 0,
@@ -140,7 +140,7 @@ fn sweep<R: Wait>(tools: &Tools<'_, R>, texts: Option<&Texts>, call: Swept) -> T
     told
 }
 
-/// Tries the call with its Nth allocation refused.
+/// Tries the call with its `n`-th allocation refused.
 fn try_swept<R: Wait>(tools: &Tools<'_, R>, texts: Option<&Texts>, call: Swept, n: usize) -> Tried {
     match (call, texts) {
         (Swept::Channel(call), _) => try_call(tools, call, n),

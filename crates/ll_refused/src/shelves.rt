@@ -1,14 +1,14 @@
-//! Shelves for which no memory is found.
+//! Shelves of requests, with one allocation after another refused.
 use crate::calls::{Tried, UNTRIED, judge};
 use ll_room::Parked;
-use ll_rooms::Shelf;
+use ll_script_rooms::Shelf;
 use ll_trial::{Row, Tools};
 use std::sync::Wait;
 
-/// The ticket of the request that is put on a shelf: the last of three.
+/// The ticket of the request that is put on a shelf, the last of three.
 const TICKET: u64 = 3;
 
-/// Puts the value of a request on an empty shelf with the Nth allocation refused; and where no memory is found, once more.
+/// Puts the value of a request on an empty shelf with the `n`-th allocation refused, and once more if that fails.
 pub(crate) fn try_put<R: Wait>(tools: &Tools<'_, R>, n: usize) -> Tried {
     let Some(mut row) = Row::prepared(tools) else {
         return UNTRIED;
@@ -21,7 +21,7 @@ pub(crate) fn try_put<R: Wait>(tools: &Tools<'_, R>, n: usize) -> Tried {
     tried
 }
 
-/// Puts this value on a shelf.
+/// Puts `parked` on a shelf with the `n`-th allocation refused.
 fn put<R: Wait>(tools: &Tools<'_, R>, parked: Parked, n: usize) -> Tried {
     let mut shelf = Shelf::new(tools.alloc);
     tools.refuse(n);
@@ -42,7 +42,7 @@ fn put<R: Wait>(tools: &Tools<'_, R>, parked: Parked, n: usize) -> Tried {
     judge(met, memory, is_same)
 }
 
-/// Takes the value off the shelf. Tells whether it was there.
+/// Takes the value under `number` off the shelf, and drops it. Returns whether it is that of the request.
 fn is_there<R: Wait>(tools: &Tools<'_, R>, shelf: &mut Shelf, number: u64) -> bool {
     match shelf.take(number) {
         Some(parked) => {
@@ -54,7 +54,7 @@ fn is_there<R: Wait>(tools: &Tools<'_, R>, shelf: &mut Shelf, number: u64) -> bo
     }
 }
 
-/// Lets a shelf go with all that is left on it.
+/// Drops a shelf with all values that are left on it.
 pub(crate) fn empty<R: Wait>(tools: &Tools<'_, R>, shelf: Shelf) {
     let (mut left, mut number) = (shelf, 0u64);
     for _ in tools.rt.forever() {

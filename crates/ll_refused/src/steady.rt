@@ -1,30 +1,30 @@
-//! Calls where every allocation is refused. All take no memory, but for one.
+//! Calls with every allocation refused. All but one take no memory.
 use crate::calls::{Tried, UNTRIED, judge};
 use crate::shelves::empty;
 use ll_room::{Asked, Closed, Collected, Parked, Room};
-use ll_rooms::Shelf;
-use ll_trial::{Answer, Made, PART, Row, SECOND, Tools, answer_in, idle_room, item, want};
+use ll_script_rooms::Shelf;
+use ll_trial::{CallResult, Made, PART, Row, SECOND, Tools, answer_in, idle_room, item, want};
 use std::sync::Wait;
 
-/// A call with a channel that has had two parts, and three requests for the second, whose replies are there. The memory of its record is
-/// used up, but for what was found for their last lines.
+/// A call with a channel that has had two parts, and three requests for the second whose replies are ready. The memory of its record is used up, but
+/// for what is reserved for the last lines of these requests.
 #[derive(Clone, Copy)]
 pub(crate) enum Steady {
-    /// The replies to all are collected.
+    /// All replies are collected.
     Collect,
-    /// All are given up.
+    /// All requests are closed.
     Close,
-    /// Whose reply is handed out next is asked.
+    /// The ticket of the next reply is read.
     NextReady,
-    /// The value of one is given back to a room where it isn't open.
+    /// The value of a request is returned to a room in which it isn't open.
     ReturnTo,
-    /// One is taken off a shelf, and the shelf is let go.
+    /// The value of a request is taken off a shelf, and the shelf is finished.
     Take,
-    /// The record is handed out, which takes memory: this tells whether any was refused.
+    /// The record is handed out, which takes memory: this shows whether any is refused.
     Rotate,
 }
 
-/// Makes the call while every allocation is refused.
+/// Makes the call with every allocation refused.
 pub(crate) fn try_steady<R: Wait>(tools: &Tools<'_, R>, call: Steady) -> Tried {
     let Some(mut row) = Row::prepared(tools) else {
         return UNTRIED;
@@ -41,7 +41,7 @@ pub(crate) fn try_steady<R: Wait>(tools: &Tools<'_, R>, call: Steady) -> Tried {
     tried
 }
 
-/// Makes the call with the value that was kept last.
+/// Makes the call, with the value of the request that was kept last.
 fn refuse_all<R: Wait>(tools: &Tools<'_, R>, row: &mut Row, call: Steady) -> Tried {
     let Some(parked) = row.take() else {
         return UNTRIED;
@@ -66,21 +66,21 @@ fn collect<R: Wait>(tools: &Tools<'_, R>, row: &mut Row, parked: Parked) -> Trie
     judge(tools.end(), false, is_right)
 }
 
-/// Whether the reply to this request is collected.
+/// Returns whether the reply to `parked` is collected, and is the one expected.
 fn collect_one<R: Wait>(tools: &Tools<'_, R>, row: &mut Row, parked: Option<Parked>) -> bool {
     match parked {
-        Some(parked) => given(tools, row.recorder.collect(parked)) == Answer::Text(2),
+        Some(parked) => given(tools, row.recorder.collect(parked)) == CallResult::Text(2),
         None => false,
     }
 }
 
-/// What a request gets whose reply is asked for. One that gets none is let go.
-fn given<R: Wait>(tools: &Tools<'_, R>, collected: Collected) -> Answer {
+/// Returns the result of collecting a reply. A request that gets none is dropped.
+fn given<R: Wait>(tools: &Tools<'_, R>, collected: Collected) -> CallResult {
     match collected {
         Collected::Got(reply) => answer_in(reply),
         Collected::Still(parked) | Collected::Stranger(parked) => {
             tools.spend(parked);
-            Answer::Other
+            CallResult::Other
         }
     }
 }
@@ -96,7 +96,7 @@ fn close<R: Wait>(tools: &Tools<'_, R>, row: &mut Row, parked: Parked) -> Tried 
     judge(met, false, row.recorder.room().open_requests() == 0)
 }
 
-/// Gives this request up.
+/// Closes `parked`.
 fn close_one<R: Wait>(tools: &Tools<'_, R>, row: &mut Row, parked: Option<Parked>) {
     if let Some(parked) = parked {
         match row.recorder.close(parked) {
@@ -164,11 +164,15 @@ fn rotate<R: Wait>(tools: &Tools<'_, R>, row: &mut Row, parked: Parked) -> Tried
     let answer = row.make(Made::Rotate);
     let met = tools.end();
     tools.spend(parked);
-    let memory = answer == Answer::Memory;
-    judge(met, memory, memory || answer == Answer::Entries(entries))
+    let memory = answer == CallResult::Memory;
+    judge(
+        met,
+        memory,
+        memory || answer == CallResult::Entries(entries),
+    )
 }
 
-/// A reading of a room's clock at which the time of a request is over, and what the request then gets.
+/// Tries a reading of a room's clock at which a request times out, and the collecting of that request's reply.
 pub(crate) fn try_time_out<R: Wait>(tools: &Tools<'_, R>) -> Tried {
     match idle_room(tools.alloc) {
         Some(mut room) => time_out_in(tools, &mut room).unwrap_or(UNTRIED),
@@ -176,7 +180,7 @@ pub(crate) fn try_time_out<R: Wait>(tools: &Tools<'_, R>) -> Tried {
     }
 }
 
-/// The time of a request of this room is over.
+/// Makes a request of `room`, and lets it time out.
 fn time_out_in<R: Wait>(tools: &Tools<'_, R>, room: &mut Room) -> Option<Tried> {
     let want = want(tools.alloc, SECOND)?;
     match room.ask(want) {
@@ -186,12 +190,12 @@ fn time_out_in<R: Wait>(tools: &Tools<'_, R>, room: &mut Room) -> Option<Tried> 
     }
 }
 
-/// The time of this request is over.
+/// Reads the clock at a time at which `parked` times out, and collects its reply, with every allocation refused.
 fn time_out<R: Wait>(tools: &Tools<'_, R>, room: &mut Room, parked: Parked) -> Tried {
     tools.refuse_all();
     let passed = room.clock(12_000).is_ok();
     let collected = room.collect(parked);
     let met = tools.end();
-    let is_right = given(tools, collected) == Answer::Timeout;
+    let is_right = given(tools, collected) == CallResult::Timeout;
     judge(met, false, passed && is_right)
 }

@@ -1,4 +1,4 @@
-//! Playlists that are read and applied, for which no memory is found.
+//! Playlists that are read and applied, with one allocation after another refused.
 use crate::calls::{Tried, judge};
 use ll_apply::{ApplyFault, apply};
 use ll_read::{Playlist, ReadFault, read};
@@ -7,16 +7,16 @@ use ll_verdict::Reply;
 use std::alloc::Global;
 use std::sync::Wait;
 
-/// A part that is a whole segment.
+/// The line of a part that is a whole segment.
 const SEGMENT: &str = "part hi 1000000 if";
 
-/// A request for the full playlist.
+/// The target of a request for the full playlist.
 const FULL: &str = "/cam/hi/live.m3u8";
 
-/// A request for a delta update.
+/// The target of a request for a delta update.
 const DELTA: &str = "/cam/hi/live.m3u8?_HLS_skip=YES";
 
-/// The playlists of a channel at two moments, and the delta update of the second.
+/// The full playlists of a channel at two moments, and the delta update of the second.
 #[derive(Drop)]
 pub(crate) struct Texts {
     base: String,
@@ -25,7 +25,7 @@ pub(crate) struct Texts {
 }
 
 impl Texts {
-    /// Those of a channel that has had 30 segments, and then 40.
+    /// Returns the texts of a channel after 30 segments, and after 40.
     pub(crate) fn new<R: Wait>(tools: &Tools<'_, R>) -> Option<Texts> {
         let mut row = Row::new(tools.alloc)?;
         let texts = Texts::of(tools.alloc, &mut row);
@@ -33,7 +33,7 @@ impl Texts {
         texts
     }
 
-    /// Those of this channel.
+    /// Returns the texts of `row`, which has no item yet.
     fn of(alloc: Global, row: &mut Row) -> Option<Texts> {
         publish(alloc, row, 30)?;
         let base = page(alloc, row, FULL)?;
@@ -43,7 +43,7 @@ impl Texts {
         (delta.len() < full.len()).then_some(Texts { base, delta, full })
     }
 
-    /// Reads the first playlist with the Nth allocation refused; and where that answers Memory, once more.
+    /// Reads the first playlist with the `n`-th allocation refused, and once more if that returns Memory.
     pub(crate) fn try_read<R: Wait>(&self, tools: &Tools<'_, R>, n: usize) -> Tried {
         let bytes = self.base.as_bytes();
         tools.refuse(n);
@@ -56,7 +56,7 @@ impl Texts {
         }
     }
 
-    /// Whether the first playlist is read where nothing is refused.
+    /// Returns whether the first playlist is read if nothing is refused.
     fn is_read(&self, alloc: Global) -> bool {
         match read(alloc, self.base.as_bytes()) {
             Ok(playlist) => self.is_written(alloc, &playlist),
@@ -64,7 +64,7 @@ impl Texts {
         }
     }
 
-    /// Whether this is written as the first playlist.
+    /// Returns whether `playlist` is written as the first playlist.
     fn is_written(&self, alloc: Global, playlist: &Playlist) -> bool {
         match playlist.write(alloc) {
             Ok(text) => text.as_str() == self.base.as_str(),
@@ -72,7 +72,7 @@ impl Texts {
         }
     }
 
-    /// Applies the delta update with the Nth allocation refused; and where that answers Memory, once more.
+    /// Applies the delta update with the `n`-th allocation refused, and once more if that returns Memory.
     pub(crate) fn try_apply<R: Wait>(&self, tools: &Tools<'_, R>, n: usize) -> Tried {
         let (base, delta) = (self.base.as_bytes(), self.delta.as_bytes());
         tools.refuse(n);
@@ -87,7 +87,7 @@ impl Texts {
     }
 }
 
-/// Publishes so many segments.
+/// Publishes `count` segments.
 fn publish(alloc: Global, row: &mut Row, count: u64) -> Option<()> {
     for _ in 0..count {
         let item = item(alloc, SEGMENT)?;
@@ -96,7 +96,7 @@ fn publish(alloc: Global, row: &mut Row, count: u64) -> Option<()> {
     Some(())
 }
 
-/// The playlist that a request gets.
+/// Returns the playlist that a request for `target` gets.
 fn page(alloc: Global, row: &mut Row, target: &str) -> Option<String> {
     let want = want(alloc, target)?;
     row.make(Made::Ask(want));

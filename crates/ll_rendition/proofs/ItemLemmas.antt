@@ -1,4 +1,4 @@
--- What is kept of a rendition tells why an item is refused, and takes it in.
+-- From what is kept of a rendition follow the rule that refuses an item, and what is kept after it.
 use Rattle.std.proofs.Common.{◌≡◌, ℕ, List, [], ◌∷◌, ◌++◌, true, refl, ap, ap₂, sym, ◌∙◌}
 use Rattle.std.specs.Prelude.{Result, Ok, Err, OnOk, option_map}
 use Rattle.ll_item.specs.Items.{is_about_ranges}
@@ -15,14 +15,14 @@ use Rattle.ll_window.proofs.StepLemmas.{refusal_told, silent}
 use Rattle.ll_rendition.specs.Refusal.{first_refusal, of_push, of_range, rendition_refusal}
 use Rattle.ll_rendition.specs.Refusal.{refusal_of}
 
--- why an item is refused
+-- the rule that refuses an item
 pub its_refusal : (c : Configuration) (own_items : List Item) (i : Item) → refusal_of (kept c own_items) i ≡ rendition_refusal c own_items i
 unfolding rendition_refusal
 its_refusal c own_items i =
     ap (λ f. first_refusal (option_map of_push f) (option_map of_range (range.refusal c own_items i)))
     (sym (refusal_told (compact c own_items) own_items i (window.refusal_after (compact c own_items) i) refl refl))
 
--- date ranges that take an item, which leaves the window
+-- an item that changes the date ranges and leaves the window as it is
 pub ranged : {E : Type 0} (c : Configuration) (before : List Item) (i j : Item) (k : Rendition) (a : Announced) (end : ℕ) (r : Result Unit E)
     → k ≡ kept c before → is_about_ranges i ≡ true → i ≡ j → end ≡ k.window.end_time
     → (k.ranges ≡ announced c before → end ≡ end_time before → OnOk r (a ≡ announced c (before ++ j ∷ [])))

@@ -1,4 +1,4 @@
--- What of all items of a rendition is kept.
+-- What is kept of all items of a rendition.
 use Rattle.std.specs.Prelude.{List}
 use Rattle.ll_item.specs.Settings.{Configuration}
 use Rattle.ll_item.specs.declared.item.Item.{Item}

@@ -1,10 +1,10 @@
--- Which items may follow in a rendition.
+-- The rules that refuse the next item of a rendition, in their order (rule 23).
 use Rattle.std.specs.Prelude.{List, Option, Some, None, option_map}
 use Rattle.ll_item.specs.Settings.{Configuration}
 use Rattle.ll_item.specs.declared.item.Item.{Item}
 use Rattle.ll_window.specs.Refusal as window
-use Rattle.ll_window.specs.declared.fault.PushFault.{PushFault}
-use Rattle.ll_window.specs.declared.fault.PushFault.TheVariants as push
+use Rattle.ll_window.specs.declared.fault.WindowFault.{WindowFault}
+use Rattle.ll_window.specs.declared.fault.WindowFault.TheVariants as push
 use Rattle.ll_range.specs.Announced as range
 use Rattle.ll_range.specs.declared.ranges.RangeFault.{RangeFault}
 use Rattle.ll_range.specs.declared.ranges.RangeFault.TheVariants as range_fault
@@ -12,8 +12,8 @@ use Rattle.ll_rendition.specs.declared.fault.PublishFault.{PublishFault}
 use Rattle.ll_rendition.specs.declared.fault.PublishFault.TheVariants as fault
 use Rattle.ll_rendition.specs.declared.rendition.Rendition.{Rendition}
 
--- what a window refuses, by its name in a channel
-abbrev pub of_push : PushFault → PublishFault
+-- the fault of a window as that of a channel
+abbrev pub of_push : WindowFault → PublishFault
 of_push push.Ended = fault.Ended
 of_push push.BadDuration = fault.BadDuration
 of_push push.TooLong = fault.TooLong
@@ -23,7 +23,7 @@ of_push push.CountEnd = fault.CountEnd
 of_push push.TimeEnd = fault.TimeEnd
 of_push push.TimeBack = fault.TimeBack
 
--- what date ranges refuse, by its name in a channel
+-- the fault of date ranges as that of a channel
 abbrev pub of_range : RangeFault → PublishFault
 of_range range_fault.IdTaken = fault.IdTaken
 of_range range_fault.BadAttribute = fault.BadAttribute
@@ -33,18 +33,17 @@ abbrev pub first_refusal : Option PublishFault → Option PublishFault → Optio
 first_refusal (Some reason) later = Some reason
 first_refusal None later = later
 
--- why an item may not follow these items of its rendition, or none: what its window refuses comes first, then what its date
--- ranges refuse
+-- the first rule that refuses an item after these items of its rendition: those of the window come first, then those of date ranges
 unfoldable pub rendition_refusal : Configuration → List Item → Item → Option PublishFault
 rendition_refusal c before item =
     first_refusal (option_map of_push (window.refusal c before item)) (option_map of_range (range.refusal c before item))
 
--- the same, told by what is kept of the items before it
+-- the same as `rendition_refusal`, from what is kept of the items before
 abbrev pub refusal_of : Rendition → Item → Option PublishFault
 refusal_of kept item =
     first_refusal (option_map of_push (window.refusal_after kept.window item)) (option_map of_range (range.refusal_after kept.window.end_time kept.ranges item))
 
--- the same, where there may be no such rendition
+-- the same for a rendition that may be missing
 abbrev pub refusal_at : Option Rendition → Item → Option PublishFault
 refusal_at None item = Some fault.NoRendition
 refusal_at (Some kept) item = refusal_of kept item

@@ -1,4 +1,4 @@
-//! What is kept of one rendition of a channel, and which items may follow in it. Sections are those of draft-pantos-hls-rfc8216bis.
+//! What is kept of one rendition of a channel, and the rules that refuse its next item. Sections are those of draft-pantos-hls-rfc8216bis.
 #![tactic(auto)]
 
 mod fault;

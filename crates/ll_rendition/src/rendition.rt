@@ -1,4 +1,4 @@
-//! What is kept of one rendition, and its next item, in two steps: a test, and a step that memory alone can refuse.
+//! What is kept of one rendition. Its next item is added in two steps: a test by the rules, and a step that fails only if memory runs out.
 ghost use Rattle.std.specs.Prelude.{◌≡◌, ◌≢◌, ◌++◌, ◌∷◌, [], IfErr, IfOk, List, true, false, MatchResult, OnOk, OnErr, None, Some};
 ghost use Rattle.ll_item.specs.Items.{is_about_ranges};
 ghost use Rattle.ll_item.specs.Settings.{Configuration};
@@ -10,20 +10,20 @@ ghost use Rattle.ll_rendition.specs.Refusal.{of_push, of_range, refusal_of};
 use crate::fault::PublishFault;
 use ll_item::Item;
 use ll_range::{RangeFault, Ranges};
-use ll_window::{PushFault, Window};
+use ll_window::{Window, WindowFault};
 use std::alloc::{AllocError, Global};
 
 /// What is kept of one rendition.
 #[derive(Debug, Drop)]
 pub struct Rendition {
-    /// Its segments and parts.
+    /// The segments and parts.
     pub window: Window,
-    /// Its date ranges.
+    /// The date ranges.
     pub ranges: Ranges,
 }
 
 impl Rendition {
-    /// What is equal to this, or an error where no memory is found.
+    /// Copies the rendition.
     pub fn copy(&self) -> Result<Rendition, AllocError>
         ensures { IfOk result (λ r. r ≡ self.now) }
     {
@@ -33,7 +33,7 @@ impl Rendition {
         })
     }
 
-    /// What is equal to each of these, in their order, or an error where no memory is found.
+    /// Copies `renditions`, in their order.
     pub fn copy_all(alloc: Global, renditions: &[Rendition]) -> Result<Vec<Rendition>, AllocError>
         ensures { IfOk result (λ copies. copies.items ≡ renditions.now) }
     {
@@ -44,7 +44,7 @@ impl Rendition {
         Ok(copies)
     }
 
-    /// Returns the first rule that refuses `item` as the next one. It takes no memory.
+    /// Returns the first rule that refuses `item` as the next one. Which rendition `item` names isn't looked at.
     pub fn test(&self, item: &Item) -> Result<(), PublishFault>
         ensures rule { MatchResult result (λ u. refusal_of self.now item.now ≡ None) (λ f. refusal_of self.now item.now ≡ Some f) }
         ensures not_memory { IfErr result (λ f. f ≢ PublishFault.Memory) }
@@ -58,8 +58,7 @@ impl Rendition {
         }
     }
 
-    /// Takes one more item in, where nothing refuses it, as [`Rendition::test`] tells: what was kept of the items before it is then what is
-    /// kept of these and this one. If no memory is found, nothing changes.
+    /// Adds an item that [`Rendition::test`] lets through. If memory runs out, nothing changes.
     pub fn accept(&mut self, item: Item) -> Result<(), AllocError>
         requires { refusal_of self.old item ≡ None }
         ensures accepted { (c : Configuration) (before : List Item) → self.old ≡ kept c before → OnOk result (self.new ≡ kept c (before ++ item ∷ [])) }
@@ -72,7 +71,7 @@ impl Rendition {
         }
     }
 
-    /// Adds a date range or takes one away. Any other item changes nothing here.
+    /// Adds or removes a date range. Any other item changes nothing here.
     fn accept_range(&mut self, item: &Item) -> Result<(), AllocError>
         requires { refusal_of self.old item.now ≡ None }
         ensures accepted { (c : Configuration) (before : List Item) → self.old ≡ kept c before → is_about_ranges item.now ≡ true
@@ -91,7 +90,7 @@ impl Rendition {
         }
     }
 
-    /// Adds an item that is no date range.
+    /// Adds an item that neither adds nor removes a date range.
     fn accept_in_window(&mut self, item: Item) -> Result<(), AllocError>
         requires { refusal_of self.old item ≡ None }
         ensures accepted { (c : Configuration) (before : List Item) → self.old ≡ kept c before → is_about_ranges item ≡ false
@@ -104,7 +103,7 @@ impl Rendition {
     }
 }
 
-/// Whether the date ranges of a rendition accept an item, where all its parts last so long until now (microseconds).
+/// Returns the first rule of date ranges that refuses `item` when all parts of the rendition last `end` microseconds.
 fn test_ranges(end: u64, ranges: &Ranges, item: &Item) -> Result<(), RangeFault>
     ensures { MatchResult result (λ u. range.refusal_after end ranges.now item.now ≡ None) (λ f. range.refusal_after end ranges.now item.now ≡ Some f) }
 {
@@ -119,24 +118,24 @@ fn test_ranges(end: u64, ranges: &Ranges, item: &Item) -> Result<(), RangeFault>
     }
 }
 
-/// What a window refuses, by its name in a channel.
-fn push_fault(fault: PushFault) -> PublishFault
+/// Converts the fault of a window to that of a channel.
+fn push_fault(fault: WindowFault) -> PublishFault
     ensures name { result ≡ of_push fault }
     ensures not_memory { result ≢ PublishFault.Memory }
 {
     match fault {
-        PushFault::Ended => PublishFault::Ended,
-        PushFault::BadDuration => PublishFault::BadDuration,
-        PushFault::TooLong => PublishFault::TooLong,
-        PushFault::OpenSegment => PublishFault::OpenSegment,
-        PushFault::NoSegment => PublishFault::NoSegment,
-        PushFault::CountEnd => PublishFault::CountEnd,
-        PushFault::TimeEnd => PublishFault::TimeEnd,
-        PushFault::TimeBack => PublishFault::TimeBack,
+        WindowFault::Ended => PublishFault::Ended,
+        WindowFault::BadDuration => PublishFault::BadDuration,
+        WindowFault::TooLong => PublishFault::TooLong,
+        WindowFault::OpenSegment => PublishFault::OpenSegment,
+        WindowFault::NoSegment => PublishFault::NoSegment,
+        WindowFault::CountEnd => PublishFault::CountEnd,
+        WindowFault::TimeEnd => PublishFault::TimeEnd,
+        WindowFault::TimeBack => PublishFault::TimeBack,
     }
 }
 
-/// What date ranges refuse, by its name in a channel.
+/// Converts the fault of date ranges to that of a channel.
 fn range_fault(fault: RangeFault) -> PublishFault
     ensures name { result ≡ of_range fault }
     ensures not_memory { result ≢ PublishFault.Memory }

@@ -1,4 +1,4 @@
--- What an act said, and where it may have made replies due.
+-- The answer to an act, and where it may have made replies due.
 use Rattle.std.proofs.Common.{◌≡◌, ℕ, List, [], ◌++◌, Bool, true, false, Option, None, refl, ap, sym, ◌∙◌, subst}
 use Rattle.std.specs.Prelude.{Err, IfOk, Ok, Result, if◌then◌else◌}
 use Rattle.std.specs.Io.KnownBytes.{Appends}
@@ -10,8 +10,8 @@ use Rattle.ll_directive.specs.Targets.{WantValue}
 use Rattle.ll_script.specs.Lines.{starved}
 use Rattle.ll_script.specs.declared.act.Act.{Act}
 use Rattle.ll_script.specs.declared.act.Act.TheVariants.{Ask, At, Bytes}
-use Rattle.ll_rooms.specs.Kept as rooms
-use Rattle.ll_rooms.specs.World as world
+use Rattle.ll_script_rooms.specs.Kept as rooms
+use Rattle.ll_script_rooms.specs.World as world
 use Rattle.ll_verdict.specs.declared.standing.Standing.{Standing}
 use Rattle.ll_replay.specs.Cuts.{IsCutBetween}
 use Rattle.ll_replay.specs.Kept.{IsDone, Keeps, Kept, Says, Stands, met, told}
@@ -35,7 +35,7 @@ done-is new d answer due a w lot is at same s = record {
 pub line-says : (k : Kept) (w : Script) (t : Option (Vec ℕ Global)) (text : List ℕ) → Keeps k w → told t ≡ text → Says k t w (says w text)
 line-says k w t text keeps e = record { keeps = record { stands = keeps.stands; silent = keeps.silent }; text = ap (λ more. w.text ++ more) (sym e) }
 
--- where a rendition stands is told, and nothing else happens
+-- the answer that says where a rendition stands is written, and nothing else happens
 pub told-says : {E : Type 0} (r : Result (Option (Vec ℕ Global)) E) (old now : Kept) (place rendition : ℕ) (s : Option Standing) → old ≡ now
     → ((v : world.World) → old.rooms ≡ rooms.kept_world v → s ≡ world.standing place rendition v) → IfOk r (λ t. told t ≡ standing_text s)
     → (w : Script) → Keeps now w → IfOk r (λ t. Says now t w (act [] w (At place rendition)))
@@ -44,12 +44,12 @@ told-says (Ok t) old now place rendition s same stands is w k =
     line-says now w t (standing_text (world.standing place rendition w.rooms)) k
     (is ∙ ap standing_text (stands w.rooms (ap (λ (q : Kept). q.rooms) same ∙ ap (λ (q : Kept). q.rooms) k.stands)))
 
--- where the rooms stay as they are, the driver keeps the same
+-- if the rooms stay as they are, the driver keeps the same
 pub unchanged-keeps : (old now : Kept) (held : rooms.Kept) (w : Script) → old ≡ now → held ≡ old.rooms → Keeps now w → Keeps (record old { rooms = held }) w
 unchanged-keeps old now held w same still k =
     subst (λ (r : rooms.Kept). Keeps (record old { rooms = r }) w) (sym still) (subst (λ s. Keeps s w) (sym same) k)
 
--- a request, for which memory was found or none was
+-- a request, out of memory or not
 pub asked-is : (new : Kept) (d : Done) (answer : Option (Vec ℕ Global)) (id place : ℕ) (want : WantValue) (w : Script) → d.answer ≡ answer → d.due ≡ None
     → (refused : Bool) × Says new answer w (act [] w (if refused then starved (Ask id place want) else Ask id place want)) → IsDone new d (Ask id place want) w
 asked-is new d answer id place want w is at s =
@@ -59,7 +59,7 @@ asked-is new d answer id place want w is at s =
     none true = refl
     none false = refl
 
--- bytes, with what memory was found for their requests
+-- bytes, with the lucks of their requests
 pub came-is : (new : Kept) (d : Done) (answer : Option (Vec ℕ Global)) (n : ℕ) (bytes piece : List ℕ) (w : Script) → d.answer ≡ answer → d.due ≡ None → bytes ≡ piece
     → (lucks : List Luck) × Says new answer w (act lucks w (Bytes n bytes)) → IsDone new d (Bytes n piece) w
 came-is new d answer n bytes piece w is at same s =

@@ -1,4 +1,4 @@
--- What a driver says of a step of the world, and of one step after another.
+-- What a driver keeps and writes after a step of a script, and after several.
 use Rattle.std.proofs.Common.{◌≡◌, ℕ, zero, suc, ◌-◌, ◌≤◌, List, [], ◌∷◌, ◌++◌, Option, None, refl, ap, sym, ◌∙◌, subst, append_assoc, append-nil, arith, fold, length}
 use Rattle.std.proofs.lemmas.List.Sums.{fold-append}
 use Rattle.std.specs.declared.alloc.Global.{Global}
@@ -63,7 +63,7 @@ cut-later base written w v u fault.Endless a c = c
 
 -- ---- replies, one after another
 
--- where none is due, none is told, whatever memory is found
+-- if none is due, nothing changes, with any luck
 pub all-still : (place : ℕ) (w : Script) (list : List (List Luck)) → ((lucks : List Luck) → next_reply place w lucks ≡ w) → fold (next_reply place) w list ≡ w
 all-still place w [] still = refl
 all-still place w (lucks ∷ list) still = ap (λ v. fold (next_reply place) v list) (still lucks) ∙ all-still place w list still
@@ -81,7 +81,7 @@ so_many-more (suc n) (lucks ∷ list) h =
     let left : n - length list ≡ suc n - length (lucks ∷ list) = omega arith in
     ap (λ more. lucks ∷ more) (so_many-more n list (omega (arith, h)) ∙ ap (λ m. list ++ so_many m []) left)
 
--- these are told first, and then the others that are due
+-- these replies are written first, and then the others that are due
 pub rest_at-more : (replies : List (List Luck)) (place : ℕ) (w : Script) → length replies ≤ length w.rooms.waits
     → rest_at replies place w ≡ fold (next_reply place) (fold (next_reply place) w replies) (so_many (length w.rooms.waits - length replies) [])
 rest_at-more replies place w h =

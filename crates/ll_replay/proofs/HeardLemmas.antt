@@ -1,13 +1,13 @@
--- What the rooms have come to and what they answered, as a driver keeps and writes it.
+-- The rooms after an act and their answers, as a driver keeps and writes them.
 use Rattle.std.proofs.Common.{◌≡◌, ℕ, ◌+◌, [], ◌++◌, Option, Some, None, refl, ap, ap₂, sym, ◌∙◌, append-nil, min, subst, arith}
 use Rattle.std.specs.Prelude.{flat_map, Result, Ok, Err, IfOk}
 use Rattle.std.specs.declared.alloc.Global.{Global}
 use Rattle.std.specs.declared.vec.Vec.{Vec}
-use Rattle.ll_rooms.specs.Kept as rooms
-use Rattle.ll_rooms.specs.Kept.{Leads, answers_of}
-use Rattle.ll_rooms.specs.World as world
-use Rattle.ll_rooms.specs.World.{all_settings, count_end, silent}
-use Rattle.ll_rooms.specs.declared.answer.ActAnswer.{ActAnswer}
+use Rattle.ll_script_rooms.specs.Kept as rooms
+use Rattle.ll_script_rooms.specs.Kept.{Leads, answers_of}
+use Rattle.ll_script_rooms.specs.World as world
+use Rattle.ll_script_rooms.specs.World.{all_settings, count_end, silent}
+use Rattle.ll_script_rooms.specs.declared.answer.ActAnswer.{ActAnswer}
 use Rattle.ll_replay.specs.Kept.{Keeps, Kept, Says, kept_script, told}
 use Rattle.ll_replay.specs.Script.{Script, asked_under, heard, reply_count, spelled}
 
@@ -101,7 +101,7 @@ unheard old now new held step same keeps leads is w k =
     within : (n r e : ℕ) → n ≡ min r e → n ≡ min (n + 0) e
     within n r e h = omega arith
 
--- a call of the rooms that tells of nothing
+-- a call of the rooms without an answer
 pub still-result : {E : Type 0} (r : Result (Option (Vec ℕ Global)) E) (old now : Kept) (step : world.World → world.World) (a : Option ActAnswer)
     → old ≡ now → ((v : world.World) → old.rooms ≡ rooms.kept_world v → a ≡ None → step v ≡ v) → IfOk r (λ t. t ≡ None → a ≡ None)
     → (w : Script) → Keeps now w → IfOk r (λ t. t ≡ None → heard w (step w.rooms) ≡ w)

@@ -154,7 +154,7 @@ length-without_one false l = omega arith
 length-strip_carriage_return : (l : List ℕ) → length l ≤ length (strip_carriage_return l) + 1
 length-strip_carriage_return l = length-without_one (slice_index l (length l - 1) == 13) l
 
--- the next line has more than so many bytes
+-- the next line has more than `n` bytes
 abbrev pub NextIsLong : ℕ → List ℕ → List (List ℕ) → Type 0
 NextIsLong n bs before = (l : List ℕ) × IsNext bs before l × (n < length l)
 

@@ -22,7 +22,7 @@ use Rattle.ll_replay.proofs.ScriptLaws.{Follows, act-follows, all_done-follow, d
 
 -- ---- the replies that are due
 
--- so many replies were written
+-- `n` replies of the channel at `place` were written
 abbrev pub Goes : (first now : Kept) (before mid : Option (List ℕ)) (place n : ℕ) → Type 0
 Goes first now before mid place n = (w : Script) (base : Option (List ℕ)) → Stands first base before w
     → (list : List (List Luck)) × (length list ≡ n) × Stands now base mid (fold (next_reply place) w list)
@@ -202,7 +202,7 @@ clocks-count k all zero ms h = refl
 clocks-count k [] (suc n) ms h = absurd (omega (arith, h))
 clocks-count k (c ∷ all) (suc n) ms h = let more = clocks-count (k + 1) all n ms (omega (arith, h)) in omega (arith, more)
 
--- the channels before this place were told
+-- the script after the first `n` channels have taken the reading
 abbrev pub told_before : List Lot → List Configuration → ℕ → ℕ → Script → Script
 told_before lots all n ms w = fold done w (with_lots lots (clocks_from 0 (take n all) ms))
 

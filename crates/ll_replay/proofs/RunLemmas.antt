@@ -6,7 +6,7 @@ use Rattle.std.proofs.KnownBytes.{Consumes-kept}
 use Rattle.std.specs.Io.KnownBytes.{Consumes, IsAtEnd, Keeps}
 use Rattle.ll_replay.specs.declared.outcome.RunFault.{RunFault}
 use Rattle.ll_replay.specs.declared.outcome.RunFault.TheVariants as fault
-use Rattle.ll_replay.specs.declared.outcome.Summary.{Summary}
+use Rattle.ll_replay.specs.declared.outcome.RunSummary.{RunSummary}
 use Rattle.ll_replay.specs.Cuts.{HasFailed, IsCutAt, IsStopped, StandsFor}
 use Rattle.ll_replay.specs.Kept.{Kept}
 use Rattle.ll_replay.specs.Stream.{IsWhole, StopsAfter, open_line}
@@ -66,27 +66,27 @@ HasFailed-cut fault.Memory read write endless base written bytes c h = tt
 abbrev pub CutsAt : List ℕ → Kept → Option (List ℕ) → Option (List ℕ) → RunFault → Type 0
 CutsAt held kept written after f = (bytes : List ℕ) (base : Option (List ℕ)) → StandsFor held kept base written bytes → IsCutAt base after bytes f
 
-abbrev pub WholeAt : List ℕ → Kept → Option (List ℕ) → Option (List ℕ) → Summary → Type 0
+abbrev pub WholeAt : List ℕ → Kept → Option (List ℕ) → Option (List ℕ) → RunSummary → Type 0
 WholeAt held kept written after summary = (bytes : List ℕ) (base : Option (List ℕ)) → StandsFor held kept base written bytes → IsWhole base after bytes summary
 
 -- all bytes were read
 abbrev pub IsAll : Option (List ℕ) → List ℕ → Type 0
 IsAll before bytes = (input : List ℕ) → before ≡ Some input → bytes ≡ input
 
-pub whole-at_end : (r : Result Summary RunFault) (held : List ℕ) (kept : Kept) (base written after before : Option (List ℕ)) (bytes : List ℕ)
+pub whole-at_end : (r : Result RunSummary RunFault) (held : List ℕ) (kept : Kept) (base written after before : Option (List ℕ)) (bytes : List ℕ)
     → IfOk r (WholeAt held kept written after) → StandsFor held kept base written bytes → IsAll before bytes
     → IfOk r (λ summary. (input : List ℕ) → before ≡ Some input → IsWhole base after input summary)
 whole-at_end (Ok summary) held kept base written after before bytes h s all = λ input e. subst (λ bs. IsWhole base after bs summary) (all input e) (h bytes base s)
 whole-at_end (Err f) held kept base written after before bytes h s all = tt
 
-pub stopped-at_end : (r : Result Summary RunFault) (held : List ℕ) (kept : Kept) (base written after before left : Option (List ℕ)) (bytes : List ℕ)
+pub stopped-at_end : (r : Result RunSummary RunFault) (held : List ℕ) (kept : Kept) (base written after before left : Option (List ℕ)) (bytes : List ℕ)
     → IfErr r (CutsAt held kept written after) → StandsFor held kept base written bytes → IsAll before bytes → IfErr r (IsStopped before left base after)
 stopped-at_end (Ok x) held kept base written after before left bytes cut s all = tt
 stopped-at_end (Err f) held kept base written after before left bytes cut s all =
     let c = cut bytes base s in
     IsStopped-cut f before left base after bytes c (λ input e. subst (λ bs. IsCutAt base after bs f) (all input e) c)
 
-pub failed-at_end : (r : Result Summary RunFault) (read write endless : Type 0) (held : List ℕ) (kept : Kept) (base written after : Option (List ℕ)) (bytes : List ℕ)
+pub failed-at_end : (r : Result RunSummary RunFault) (read write endless : Type 0) (held : List ℕ) (kept : Kept) (base written after : Option (List ℕ)) (bytes : List ℕ)
     → IfErr r (CutsAt held kept written after) → StandsFor held kept base written bytes → (r ≡ Err fault.Write → write) → IfErr r (HasFailed read write endless)
 failed-at_end (Ok x) read write endless held kept base written after bytes cut s h = tt
 failed-at_end (Err f) read write endless held kept base written after bytes cut s h =

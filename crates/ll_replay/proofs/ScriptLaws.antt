@@ -5,8 +5,8 @@ use Rattle.std.specs.Prelude.{flat_map, fold}
 use Rattle.std.proofs.lemmas.Bool.Decides.{nat_tests}
 use Rattle.ll_connection.specs.Turn as connection
 use Rattle.ll_connection.specs.Visit.{Luck}
-use Rattle.ll_rooms.specs.declared.owner.Owner.{Owner}
-use Rattle.ll_rooms.specs.declared.owner.Owner.TheVariants.{Get, Connection}
+use Rattle.ll_script_rooms.specs.declared.owner.Owner.{Owner}
+use Rattle.ll_script_rooms.specs.declared.owner.Owner.TheVariants.{Get, Connection}
 use Rattle.ll_publish.specs.Refusals.{no_line}
 use Rattle.ll_script.specs.Answers.{clock_line, fault_line}
 use Rattle.ll_script.specs.Lines.{acts}
@@ -14,9 +14,9 @@ use Rattle.ll_script.specs.declared.act.Act.{Act}
 use Rattle.ll_script.specs.declared.act.Act.TheVariants.{Declare, Offer, At, Refuse, Ask, Answer, Close, Clock, RefuseClock, Bytes, Drop}
 use Rattle.ll_verdict.specs.declared.fault.ClockFault.TheVariants as refused
 use Rattle.ll_verdict.specs.declared.reply.Reply.{Reply}
-use Rattle.ll_rooms.specs.World as rooms
-use Rattle.ll_rooms.specs.declared.answer.ActAnswer as answer
-use Rattle.ll_rooms.specs.declared.answer.ActAnswer.TheVariants as said
+use Rattle.ll_script_rooms.specs.World as rooms
+use Rattle.ll_script_rooms.specs.declared.answer.ActAnswer as answer
+use Rattle.ll_script_rooms.specs.declared.answer.ActAnswer.TheVariants as said
 use Rattle.ll_replay.specs.Kept.{met}
 use Rattle.ll_replay.specs.Script.{Script, Ending, LineTooLong, Lot, Marked, act, acted, counted, done, heard, line, line_by, makes_due, passed_on, passed_to, read_by, rest, rest_at, so_many, spelled, standing_text, next_reply, turned, with_lots}
 

@@ -7,7 +7,7 @@ use Rattle.std.specs.Io.KnownBytes.{Appends}
 use Rattle.std.specs.Str.Lines.{lines, strip_carriage_return}
 use Rattle.ll_replay.specs.declared.outcome.RunFault.{RunFault}
 use Rattle.ll_replay.specs.declared.outcome.RunFault.TheVariants as fault
-use Rattle.ll_replay.specs.declared.outcome.Summary.{Summary}
+use Rattle.ll_replay.specs.declared.outcome.RunSummary.{RunSummary}
 use Rattle.ll_replay.specs.Cuts.{IsCutAt, IsCutBetween, StandsFor}
 use Rattle.ll_replay.specs.Kept.{Kept, Stands}
 use Rattle.ll_replay.specs.Stream.{AreLines, EndsBy, IsBegun, IsWhole, StopsForMemory, come_to, ended_lines, open_line, text_of}
@@ -31,7 +31,7 @@ unmarked-texts : (list : List (List ℕ)) → map text_of (map unmarked list) �
 unmarked-texts [] = refl
 unmarked-texts (text ∷ list) = ap (λ more. text ∷ more) (unmarked-texts list)
 
--- the lines of a script, from what was run on: for those after it all memory is found
+-- the lines of a script: those before `l`, `l`, and those after it, with memory for everything
 abbrev from_line : List Marked → Marked → List (List ℕ) → List Marked
 from_line before l later = before ++ l ∷ map unmarked later
 
@@ -73,7 +73,7 @@ IsCutAt-line (fault.LineTooLong m) base written input before l n c = EndsBy-line
 IsCutAt-line fault.Endless base written input before l n c = c
 IsCutAt-line fault.Memory base written input before l n c = (before, l, n.0, n.1, c)
 
--- where a run stops for memory, a prefix of what the script writes was written
+-- if a run stops for memory, a prefix of the script's text was written
 pub StopsForMemory-begun : (base written : Option (List ℕ)) (input : List ℕ) → StopsForMemory base written input → IsBegun base written input
 StopsForMemory-begun base written input s =
     let before = come_to s.0 in
@@ -161,14 +161,14 @@ pub end-cut : (f : RunFault) (held text : List ℕ) (kept : Kept) (base written 
 end-cut f held text kept base written after bytes h t s c =
     IsCutAt-line f base after bytes s.list (record { text = text; lots = c.0 }) ([], last-next held text kept base written bytes h t s) c.1
 
-pub IsWhole-all_ended : (held : List ℕ) (kept : Kept) (base written : Option (List ℕ)) (bytes : List ℕ) (summary : Summary)
+pub IsWhole-all_ended : (held : List ℕ) (kept : Kept) (base written : Option (List ℕ)) (bytes : List ℕ) (summary : RunSummary)
     → length held ≡ 0 → StandsFor held kept base written bytes
     → ((w : Script) → Stands kept base written w → summary ≡ summary_of w) → IsWhole base written bytes summary
 IsWhole-all_ended held kept base written bytes summary h s sums =
     let none : length (open_line bytes) ≡ 0 = rw (← s.holds) h in
     (s.list, s.lines ∙ sym (lines-all_ended bytes none), s.stands.goes_on, sums (come_to s.list) s.stands, s.stands.wrote)
 
-pub IsWhole-last_line : (held text : List ℕ) (kept kept' : Kept) (base written after : Option (List ℕ)) (bytes : List ℕ) (summary : Summary)
+pub IsWhole-last_line : (held text : List ℕ) (kept kept' : Kept) (base written after : Option (List ℕ)) (bytes : List ℕ) (summary : RunSummary)
     → 0 < length held → text ≡ held → (s : StandsFor held kept base written bytes) → IsTaken kept' base after (come_to s.list) text
     → ((w : Script) → Stands kept' base after w → summary ≡ summary_of w) → IsWhole base after bytes summary
 IsWhole-last_line held text kept kept' base written after bytes summary h t s next sums =

@@ -1,4 +1,4 @@
--- What one line makes of a driver that stands for a world, by what the line means.
+-- How one line changes a driver that stands for a script, by what the line means.
 use Rattle.std.proofs.Common.{◌≡◌, ℕ, ◌+◌, ◌<◌, ◌≤◌, List, [], ◌∷◌, Bool, true, false, Option, Some, None, refl, ap, sym, ◌∙◌, subst, fold, length, map, Result, Ok, Err, OnOk, IfErr, IsSome}
 use Rattle.std.specs.Prelude.{if◌then◌else◌, option_map}
 use Rattle.std.proofs.lemmas.Option.{none-some, same_Some}
@@ -17,19 +17,19 @@ use Rattle.ll_replay.proofs.DriverLemmas.{stops-before}
 use Rattle.ll_replay.proofs.RestLemmas.{ToldAll, ToldCut}
 use Rattle.ll_replay.proofs.ScriptLaws.{Follows, acted-follows, line-means, line-too-long}
 
--- ---- lines for whose item or request no memory was found
+-- ---- lines whose item or request is out of memory
 
--- the same, but no memory is found for the item or the request
+-- the same lot, except that the item or the request is out of memory
 abbrev without_memory : Lot → Lot
 without_memory lot = record lot { refused = true }
 
--- lots of these acts for whose item or request no memory is found
+-- the lots of these acts, of which each item or request is out of memory
 abbrev refused : List Lot → List Act → List Lot
 refused lots [] = []
 refused [] (a ∷ list) = without_memory plain ∷ refused [] list
 refused (lot ∷ lots) (a ∷ list) = without_memory lot ∷ refused lots list
 
--- what comes of no memory needs none
+-- what an act becomes if it is out of memory stays as it is
 starved-twice : (a : Act) → starved (starved a) ≡ starved a
 starved-twice (act.Declare settings) = refl
 starved-twice (act.Offer place item) = refl
@@ -58,7 +58,7 @@ all_done-starved w [] (a ∷ list) =
 all_done-starved w (lot ∷ lots) (a ∷ list) =
     ap (λ v. fold done v (with_lots (refused lots list) list)) (done-starved w lot a) ∙ all_done-starved (done w (lot, starved a)) lots list
 
--- a line by what was read of it: with some memory it comes to the same
+-- a line by what was read of it: with some lots it has the same result
 read-comes_to : (lots : List Lot) (w : Script) (b : Bool) (meant : Option (List Act)) (list : List Act) → option_map (starved_if b) meant ≡ Some list
     → (more : List Lot) × (acted more w meant ≡ acted lots w (Some list))
 read-comes_to lots w b None list e = absurd (none-some list e)

@@ -9,18 +9,18 @@ use Rattle.ll_connection.specs.Visit.{Luck}
 use Rattle.ll_connection.specs.declared.sent.Sent.{Sent}
 use Rattle.ll_connection.proofs.RoomsLaws as laws
 use Rattle.ll_directive.specs.Targets.{WantValue}
-use Rattle.ll_rooms.specs.declared.owner.Owner.{Owner}
-use Rattle.ll_rooms.specs.declared.owner.Owner.TheVariants.{Connection}
+use Rattle.ll_script_rooms.specs.declared.owner.Owner.{Owner}
+use Rattle.ll_script_rooms.specs.declared.owner.Owner.TheVariants.{Connection}
 use Rattle.ll_item.specs.Settings.{Configuration}
 use Rattle.ll_session.specs.Talk.{SessionValue}
 use Rattle.ll_verdict.specs.declared.reply.Reply.{Reply}
-use Rattle.ll_rooms.proofs.SettingsLaws.{ask-keeps, close-keeps, next_reply-keeps}
-use Rattle.ll_rooms.specs.Kept as rooms
-use Rattle.ll_rooms.specs.Kept.{Leads, answers_of}
-use Rattle.ll_rooms.specs.World as world
-use Rattle.ll_rooms.specs.World.{all_settings, count_end, silent}
-use Rattle.ll_rooms.specs.declared.answer.ActAnswer as answer
-use Rattle.ll_rooms.specs.declared.answer.ActAnswer.TheVariants as said
+use Rattle.ll_script_rooms.proofs.SettingsLaws.{ask-keeps, close-keeps, next_reply-keeps}
+use Rattle.ll_script_rooms.specs.Kept as rooms
+use Rattle.ll_script_rooms.specs.Kept.{Leads, answers_of}
+use Rattle.ll_script_rooms.specs.World as world
+use Rattle.ll_script_rooms.specs.World.{all_settings, count_end, silent}
+use Rattle.ll_script_rooms.specs.declared.answer.ActAnswer as answer
+use Rattle.ll_script_rooms.specs.declared.answer.ActAnswer.TheVariants as said
 use Rattle.ll_replay.specs.Kept.{Keeps, Kept, Says, kept_script, told}
 use Rattle.ll_replay.specs.Script.{Script, heard, passed_on, reply_count, spelled, next_reply, turned}
 use Rattle.ll_replay.proofs.HeardLemmas.{hears, heard-result, heard-says, still-result}

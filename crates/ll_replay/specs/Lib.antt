@@ -1,3 +1,4 @@
+-- The definitions of `ll_replay`, by files.
 pub mod Cuts
 pub mod Kept
 pub mod Pieces

@@ -1,4 +1,4 @@
--- The definitions at worked examples: small scripts, and all that is written for each, byte for byte.
+-- Worked examples: small scripts, and all that is written for each, byte for byte.
 use Rattle.std.specs.Prelude.{◌≡◌, ℕ, List, [], ◌∷◌, ◌++◌, true, Some, codes}
 use Rattle.ll_replay.specs.Stream.{come_to, script, world_of}
 use Rattle.ll_replay.specs.Script.{BadLine, Marked, plain, unmarked}
@@ -6,7 +6,7 @@ use Rattle.ll_replay.specs.Script.{BadLine, Marked, plain, unmarked}
 abbrev pub channel_line : List ℕ
 channel_line = codes "channel cam target=4 part=1000000 skip=24 window=36 renditions=hi first=0 start=0\n"
 
--- the lines of a playlist that come first
+-- the first lines of a playlist
 abbrev pub first_lines_of_playlist : List ℕ
 first_lines_of_playlist =
     codes "#EXTM3U\n"
@@ -68,9 +68,9 @@ refusals_text =
     ++ codes "ok 3\n"
     ++ codes "no 2 Ended\n"
 
--- a channel whose first segment has the last number there is, and begins a second before the year 9999 ends. Where two rules refuse an
--- item, the first is told: a part that is too long is of a number past the last, too; so is one that would end after the year; an id
--- that is taken comes with attributes that a date range may not have; and an id that is unknown is taken away after the end
+-- A channel whose first segment has the largest number that is allowed, and begins a second before the year 9999 ends. If two rules refuse an
+-- item, the answer is the first: a part that is too long also has a number above the largest, and so has one that would end after the year; an
+-- id that is taken comes with attributes that aren't allowed; and the removal of an unknown id comes after the end.
 abbrev pub last_lines : List ℕ
 last_lines =
     codes "channel cam target=4 part=1000000 skip=24 window=36 renditions=hi first=1152921504606846976 start=253402300799000\n"
@@ -98,7 +98,7 @@ last_refusals =
     ++ codes "ok 3\n"
     ++ codes "no 2 Ended\n"
 
--- three requests: the part that one awaits comes, one is too far ahead, and one waits for a segment until its time is over
+-- three requests: one for a part that comes, one for a segment that doesn't come in time, and one that is too far ahead
 abbrev pub waiting_lines : List ℕ
 waiting_lines =
     channel_line
@@ -126,7 +126,7 @@ waiting_text =
     ++ part_playlist
     ++ codes "reply 2 503 Timeout\n"
 
--- a part is waited for, its segment is there, and the next one isn't
+-- requests for a part that comes, for its segment, which is there, and for the next segment, which isn't
 abbrev pub media_lines : List ℕ
 media_lines =
     channel_line
@@ -142,7 +142,7 @@ media_text =
     ++ codes "reply 2 200 2\n00ff\n"
     ++ codes "reply 3 404 NotFound\n"
 
--- where a rendition stands before any part, amid a segment, after it, and after the end; and one that the channel hasn't
+-- where a rendition stands before any part, inside a segment, after it, and after the end; and a rendition that the channel hasn't
 abbrev pub asking_lines : List ℕ
 asking_lines =
     channel_line
@@ -166,18 +166,18 @@ asking_text =
     ++ codes "at 3 1 0 600001 601 ended\n"
     ++ codes "no 1 NoRendition\n"
 
--- the second number of a request does not rise
+-- the number of the second request isn't larger than that of the first
 abbrev pub same_number : List ℕ
 same_number = asked_at_once ++ codes "get 1 /cam/hi/live.m3u8\n" ++ codes "pub cam part hi 1000000 if\n"
 
--- a line for whose item or request no memory is found
+-- a line whose item or request is out of memory
 abbrev pub refused_line : List ℕ → Marked
 refused_line text = record { text = text; lots = (record plain { refused = true }) ∷ [] }
 
 abbrev pub declared : Marked
 declared = unmarked (codes "channel cam target=4 part=1000000 skip=24 window=36 renditions=hi first=0 start=0")
 
--- the same item twice, of which the first finds no memory, and so does the first of two requests
+-- the same item twice, of which the first is out of memory, and so is the first of two requests
 abbrev pub lines_without_memory : List Marked
 lines_without_memory =
     declared

@@ -1,32 +1,33 @@
-//! Takes the lines of a script, one after another.
+//! Runs the lines of a script one after another, and writes their answers.
 ghost use Rattle.std.specs.Prelude.{◌≡◌, ◌<◌, ◌+◌, ◌-◌, ◌^◌, [], ℕ, List, Bool, Option, None, Some, IfOk, OnOk, IfErr, IsErrOf, IsSome, if◌then◌else◌, min};
 ghost use Rattle.ll_script.specs.Lines.{clocks_from, meant_acts, starved};
 ghost use Rattle.ll_connection.specs.Turn as connection;
 ghost use Rattle.ll_connection.specs.Visit.{Luck};
-ghost use Rattle.ll_rooms.specs.Kept.{answers_of};
-ghost use Rattle.ll_rooms.specs.World as rooms;
+ghost use Rattle.ll_script_rooms.specs.Kept.{answers_of};
+ghost use Rattle.ll_script_rooms.specs.World as rooms;
 ghost use Rattle.ll_replay.specs.Script.{Lot, Script, start, line, summary_of};
 ghost use Rattle.ll_replay.specs.Script as script;
 ghost use Rattle.ll_replay.specs.Kept.{IsDone, Keeps, Says, Stands, met};
 ghost use Rattle.ll_replay.specs.Cuts.{IsCutBetween};
 
 use crate::answers::{refuse, replies_in, say, spell, tell, to_connection};
-use crate::outcome::{RunFault, Summary};
+use crate::outcome::{RunFault, RunSummary};
 use ll_connection::{Connections, Sent};
 use ll_device::Writer;
 use ll_directive::{TargetFault, Want};
 use ll_item::{Channels, Item, Settings};
 use ll_publish::Refusal;
-use ll_rooms::{ActAnswer, AskStop, Owner, Rooms};
 use ll_script::{Act, Acts, LineFault, clock_line, fault_line, read_line};
+use ll_script_rooms::{ActAnswer, AskStop, Owner, Rooms};
 use ll_verdict::{ClockFault, PublishFault, Reply};
 use std::alloc::{AllocError, Global};
 use std::marker::Model;
 
-/// The most bytes of a line, without its end.
+/// The largest number of bytes of a line, without its end.
 pub(crate) const LONGEST_LINE: usize = 65_536;
 
-/// The channels of a script with the requests that wait in them, its connections, and what was counted. It must be finished.
+/// The channels of a script with the requests that wait in them, its connections, and its counts. It must be consumed by
+/// [`Driver::finish`].
 pub(crate) struct Driver {
     alloc: Global,
     rooms: Rooms,
@@ -37,8 +38,8 @@ pub(crate) struct Driver {
     replies: u64,
 }
 
-/// What an act was answered, where it was answered, and the place of the channel in which it may have made replies due. An item for which
-/// no memory was found makes none due.
+/// The answer to an act, if it has one, and the place of the channel in which it may have made replies due. An item that was out of memory
+/// makes none due.
 struct Done {
     answer: Option<Vec<u8>>,
     due: Option<usize>,
@@ -53,7 +54,7 @@ impl Model for Driver {
 }
 
 impl Done {
-    /// An act that makes no replies due, with this answer.
+    /// Returns `answer` for an act that makes no replies due.
     fn quiet(answer: Option<Vec<u8>>) -> Done
         ensures answer { result.answer ≡ answer }
         ensures due { result.due ≡ None }
@@ -63,7 +64,7 @@ impl Done {
 }
 
 impl Driver {
-    /// A driver before any line.
+    /// Returns a driver before any line.
     pub(crate) fn new(alloc: Global) -> Driver
         ensures stands { (base : Option (List ℕ)) → Stands result base base start }
         ensures lines { result.lines ≡ 0 }
@@ -79,24 +80,24 @@ impl Driver {
         }
     }
 
-    /// How many lines were taken.
+    /// Returns the number of lines so far.
     pub(crate) fn lines(&self) -> u64
         ensures { result ≡ self.now.lines }
     {
         self.lines
     }
 
-    /// What the lines so far came to.
-    pub(crate) fn summary(&self) -> Summary
+    /// Returns the counts of the script so far.
+    pub(crate) fn summary(&self) -> RunSummary
         ensures { (w : Script) (base written : Option (List ℕ)) → Stands self.now base written w → result ≡ summary_of w }
     {
-        Summary {
+        RunSummary {
             events: self.rooms.events(),
             replies: self.replies,
         }
     }
 
-    /// Takes a whole line, without its end. Where no memory is found for its item or its request, that is answered.
+    /// Takes a whole line, without its end, and writes its answers. An item or a request that is out of memory is answered so.
     pub(crate) fn take_line<W: Writer>(
         &mut self,
         text: &[u8],
@@ -123,7 +124,7 @@ impl Driver {
         }
     }
 
-    /// Does what a line makes happen, one act after another.
+    /// Does what a line makes happen, act by act.
     fn acts<W: Writer>(&mut self, acts: Acts, writer: &mut W) -> Result<(), RunFault>
         ensures ok { OnOk result ((w : Script) (base : Option (List ℕ)) → Stands self.old base (W.written writer.old) w
             → (lots : List Lot) × Stands self.new base (W.written writer.new) (script.acted lots w (Some (meant_acts self.old.declared acts)))) }
@@ -140,7 +141,8 @@ impl Driver {
         }
     }
 
-    /// A reading of the clock for each channel, in order of declaration; each is told of all that it made due before the next.
+    /// Passes a reading of the clock, `ms` milliseconds, to each channel in order of declaration. The replies that it makes due in one
+    /// channel are written before the next is read.
     fn clocks<W: Writer>(&mut self, ms: u64, writer: &mut W) -> Result<(), RunFault>
         ensures ok { OnOk result ((w : Script) (base : Option (List ℕ)) → Stands self.old base (W.written writer.old) w
             → (lots : List Lot) × Stands self.new base (W.written writer.new) (script.acted lots w (Some (clocks_from 0 self.old.declared ms)))) }
@@ -156,7 +158,7 @@ impl Driver {
         Ok(())
     }
 
-    /// Does an act, writes its answer, and then the replies that it made due.
+    /// Does `act`, writes its answer, and then the replies that it made due.
     fn done<W: Writer>(&mut self, act: Act, writer: &mut W) -> Result<(), RunFault>
         ensures ok { OnOk result ((w : Script) (base : Option (List ℕ)) → Stands self.old base (W.written writer.old) w
             → (lot : Lot) × Stands self.new base (W.written writer.new) (script.done w (lot, act))) }
@@ -173,7 +175,7 @@ impl Driver {
         }
     }
 
-    /// Writes the replies of the channel at this place that are due, in order of asking.
+    /// Writes the replies of the channel at `place` that are due, in order of asking.
     fn rest<W: Writer>(&mut self, place: usize, writer: &mut W) -> Result<(), RunFault>
         ensures ok { OnOk result ((w : Script) (base : Option (List ℕ)) → Stands self.old base (W.written writer.old) w
             → (replies : List (List Luck)) × Stands self.new base (W.written writer.new) (script.rest_at replies place w)) }
@@ -193,7 +195,7 @@ impl Driver {
         Ok(())
     }
 
-    /// The first reply of the channel at this place that is due, where one is.
+    /// Hands out the first reply of the channel at `place` that is due. Returns its text, or `None` if none is due.
     fn next_reply(&mut self, place: usize) -> Result<Option<Vec<u8>>, AllocError>
         ensures says { (w : Script) → Keeps self.old w → IfOk result (λ a. (lucks : List Luck) × Says self.new a w (script.next_reply place w lucks)) }
         ensures still { (w : Script) → Keeps self.old w → IfOk result (λ a. a ≡ None → (lucks : List Luck) → script.next_reply place w lucks ≡ w) }
@@ -208,7 +210,7 @@ impl Driver {
         }
     }
 
-    /// A connection's request gets its reply, and its next requests are made. What is sent on it.
+    /// Answers the request of connection `number` with `reply`, and hands in its next requests. Returns what is sent on it.
     fn reply(&mut self, number: u64, reply: Reply) -> Result<Option<Vec<u8>>, AllocError>
         ensures says { (w : Script) → Keeps self.old w
             → IfOk result (λ a. (lucks : List Luck) × Says self.new a w (script.turned w (connection.reply lucks number reply w.connections w.rooms))) }
@@ -221,7 +223,7 @@ impl Driver {
         Ok(Some(self.sent(sent)))
     }
 
-    /// Does what a line makes happen, and writes its answer. The place of the channel in which replies may be due now.
+    /// Does `act`, and writes its answer. Returns the place of the channel in which replies may be due now.
     fn act<W: Writer>(&mut self, act: Act, writer: &mut W) -> Result<Option<usize>, RunFault>
         ensures ok { IfOk result (λ due. (w : Script) (base : Option (List ℕ)) → Stands self.old base (W.written writer.old) w
             → (lot : Lot) × (due ≡ script.makes_due (met lot act))
@@ -241,7 +243,7 @@ impl Driver {
         }
     }
 
-    /// Does what a line makes happen. Where no memory is found for an item or a request, it is answered so.
+    /// Does `act`. An item or a request that is out of memory is answered so.
     fn step(&mut self, act: Act) -> Result<Done, AllocError>
         ensures done { (w : Script) → Keeps self.old w → IfOk result (λ d. IsDone self.new d act w) }
         ensures lines { OnOk result (self.new.lines ≡ self.old.lines) }
@@ -282,7 +284,7 @@ impl Driver {
         }
     }
 
-    /// Adds a channel, which has no answer.
+    /// Adds a channel. Returns no answer.
     fn declare(&mut self, settings: Settings) -> Result<Option<Vec<u8>>, AllocError>
         ensures says { (w : Script) → Keeps self.old w → IfOk result (λ a. Says self.new a w (script.act [] w (Act.Declare settings))) }
         ensures lines { OnOk result (self.new.lines ≡ self.old.lines) }
@@ -293,7 +295,7 @@ impl Driver {
         Ok(None)
     }
 
-    /// What an item for the channel at this place is answered; where no memory is found for it, it is refused so, and nothing changes.
+    /// Offers `item` to the channel at `place`. If it is out of memory, it is refused for that, and nothing changes.
     fn offer(&mut self, place: usize, item: Item) -> Result<Done, AllocError>
         ensures done { (w : Script) → Keeps self.old w → IfOk result (λ d. IsDone self.new d (Act.Offer place item) w) }
         ensures lines { OnOk result (self.new.lines ≡ self.old.lines) }
@@ -314,15 +316,15 @@ impl Driver {
         }
     }
 
-    /// Returns the line that tells where a rendition of the channel at `place` stands. Nothing changes.
+    /// Returns the line that says where the rendition of index `rendition` of the channel at `place` stands.
     fn standing(&self, place: usize, rendition: usize) -> Result<Option<Vec<u8>>, AllocError>
         ensures { (w : Script) → Keeps self.now w → IfOk result (λ a. Says self.now a w (script.act [] w (Act.At place rendition))) }
     {
         tell(self.alloc, self.rooms.standing(place, rendition))
     }
 
-    /// What a request to the channel at this place is answered at once, where it need not wait; where no memory is found for it, it is
-    /// answered so. It fails where it should wait and no memory is found to keep whose request it is.
+    /// Makes the request `id` of the channel at `place`. Returns its answer unless it waits; a request that is out of memory is answered
+    /// so. It fails if there is no memory for the answer, or for keeping whose request waits.
     fn ask(&mut self, id: u64, place: usize, want: Want) -> Result<Option<Vec<u8>>, AllocError>
         ensures says { (w : Script) → Keeps self.old w
             → IfOk result (λ a. (refused : Bool) × Says self.new a w (script.act [] w (if refused then starved (Act.Ask id place want) else Act.Ask id place want))) }
@@ -339,7 +341,7 @@ impl Driver {
         }
     }
 
-    /// The reply to a request that is no event of any channel.
+    /// Returns the reply to request `id`, which is no event of any channel.
     fn answer(&mut self, id: u64, fault: TargetFault) -> Result<Option<Vec<u8>>, AllocError>
         ensures says { (w : Script) → Keeps self.old w → IfOk result (λ a. Says self.new a w (script.act [] w (Act.Answer id fault))) }
         ensures lines { OnOk result (self.new.lines ≡ self.old.lines) }
@@ -349,7 +351,7 @@ impl Driver {
         Ok(Some(fault_line(self.alloc, id, fault)?.into_bytes()))
     }
 
-    /// Gives a request up, where it waits, which has no answer.
+    /// Closes request `id` if it waits. Returns no answer.
     fn close(&mut self, id: u64) -> Option<Vec<u8>>
         ensures says { (w : Script) → Keeps self.old w → Says self.new result w (script.act [] w (Act.Close id)) }
         ensures lines { self.new.lines ≡ self.old.lines }
@@ -358,7 +360,7 @@ impl Driver {
         None
     }
 
-    /// What a reading of the clock of the channel at this place is answered, where it is refused.
+    /// Passes a reading of the clock, `ms` milliseconds, to the channel at `place`. Its answer is the refusal, if it is refused.
     fn clock(&mut self, place: usize, ms: u64) -> Result<Done, AllocError>
         ensures done { (w : Script) → Keeps self.old w → IfOk result (λ d. IsDone self.new d (Act.Clock place ms) w) }
         ensures lines { OnOk result (self.new.lines ≡ self.old.lines) }
@@ -372,7 +374,7 @@ impl Driver {
         })
     }
 
-    /// These bytes came on a connection. What is sent on it.
+    /// Adds the bytes `piece` to connection `number`. Returns what is sent on it.
     fn bytes(&mut self, number: u64, piece: &[u8]) -> Result<Option<Vec<u8>>, AllocError>
         ensures says { (w : Script) → Keeps self.old w → IfOk result (λ a. (lucks : List Luck) × Says self.new a w (script.act lucks w (Act.Bytes number piece.now))) }
         ensures lines { OnOk result (self.new.lines ≡ self.old.lines) }
@@ -383,7 +385,7 @@ impl Driver {
         Ok(Some(self.sent(sent)))
     }
 
-    /// A connection ended, which has no answer.
+    /// Ends connection `number`. Returns no answer.
     fn end(&mut self, number: u64) -> Option<Vec<u8>>
         ensures says { (w : Script) → Keeps self.old w → Says self.new result w (script.act [] w (Act.Drop number)) }
         ensures lines { self.new.lines ≡ self.old.lines }
@@ -392,7 +394,7 @@ impl Driver {
         None
     }
 
-    /// Counts what is sent on a connection. Its text.
+    /// Counts the answers in `sent`, and returns their text.
     fn sent(&mut self, sent: Sent) -> Vec<u8>
         ensures count { self.new ≡ record self.old { replies = min (self.old.replies + sent.replies) rooms.count_end } }
         ensures text { result ≡ sent.text }
@@ -402,14 +404,14 @@ impl Driver {
         text
     }
 
-    /// Counts a reply, where an answer is one.
+    /// Counts `answer` if it is a reply.
     fn count(&mut self, answer: &Option<ActAnswer>)
         ensures { self.new ≡ record self.old { replies = min (self.old.replies + script.reply_count (answers_of answer.now)) rooms.count_end } }
     {
         self.replies = self.replies.saturating_add(replies_in(answer));
     }
 
-    /// Ends all connections, and gives all requests up that still wait; they get no reply.
+    /// Ends all connections, and closes all requests that still wait, without a reply.
     pub(crate) fn finish(self) {
         let Driver {
             alloc: _,

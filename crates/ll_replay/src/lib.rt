@@ -1,5 +1,5 @@
-//! Scripts of channels, run from a reader to a writer: what is published, what is asked for, and every answer. An item or a request for which
-//! no memory is found is answered so, and the script goes on.
+//! Runs scripts of channels from a reader to a writer: what is published, what is asked for, and every answer. An item or a request that is
+//! out of memory is answered so, and the script goes on.
 #![tactic(auto)]
 
 mod answers;
@@ -10,5 +10,5 @@ mod stream;
 
 pub use laws::worked_script;
 pub use ll_publish::Refusal;
-pub use outcome::{RunFault, Summary};
+pub use outcome::{RunFault, RunSummary};
 pub use stream::{run, run_within};

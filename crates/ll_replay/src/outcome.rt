@@ -1,15 +1,16 @@
+//! How a run of a script ended.
 use thiserror::Error;
 
-/// What a script came to. Both numbers count up to 2^64 - 1.
+/// The counts of a script, each of which stays at 2^64 - 1 once it is there.
 #[derive(Clone, Copy, Debug, PartialEq, Eq)]
-pub struct Summary {
-    /// Accepted events.
+pub struct RunSummary {
+    /// The accepted items, requests, closes and readings of the clock, in all channels.
     pub events: u64,
-    /// Replies written.
+    /// The replies written.
     pub replies: u64,
 }
 
-/// Why a run ended before its script.
+/// Why a run ended before the end of its script.
 #[derive(Clone, Copy, Debug, PartialEq, Eq, Error)]
 pub enum RunFault {
     /// A read failed.
@@ -18,23 +19,23 @@ pub enum RunFault {
     /// A write failed.
     #[error("Write")]
     Write,
-    /// A line that no script has in its place; lines count from 1.
+    /// A line that no script has in this place.
     #[error("BadLine {line}")]
     BadLine {
-        /// Its number.
+        /// Its number, from 1.
         line: u64,
     },
-    /// A line of more than 65,536 bytes.
+    /// A line of more than 65,536 bytes, without its end.
     #[error("LineTooLong {line}")]
     LineTooLong {
-        /// Its number.
+        /// Its number, from 1.
         line: u64,
     },
-    /// The reader gave bytes for 2^32 reads.
+    /// The reader wasn't at its end after the largest number of reads: 2^32, or fewer as `run_within` is passed.
     #[error("Endless")]
     Endless,
-    /// No memory was found for a channel, for bytes of a connection, for keeping whose request waits, or for the text of an answer. An item or
-    /// a request for which none is found is answered so, and the run goes on.
+    /// Out of memory for a channel, for bytes of a connection, for keeping whose request waits, or for the text of an answer. An item or a
+    /// request that is out of memory is answered so, and the run goes on.
     #[error("Memory")]
     Memory,
 }

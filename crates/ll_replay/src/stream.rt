@@ -1,3 +1,4 @@
+//! Runs a script from a reader to a writer: cuts its bytes into lines, and takes each line.
 ghost use Rattle.std.specs.Prelude.{◌≡◌, ◌<◌, ◌≤◌, ◌+◌, ◌-◌, ◌^◌, ◌++◌, [], ◌∷◌, ℕ, List, min, Option, Some, IfOk, IfErr, OnOk, OnErr, IsErrOf, length};
 ghost use Rattle.std.specs.Str.Lines.{strip_carriage_return};
 ghost use Rattle.ll_replay.specs.Cuts.{HasFailed, IsCutAt, IsStopped, StandsFor};
@@ -5,28 +6,28 @@ ghost use Rattle.ll_replay.specs.Stream.{EndsBy, IsBegun, IsWhole, StopsAfter, S
 ghost use Rattle.ll_replay.specs.Script as script;
 
 use crate::driver::{Driver, LONGEST_LINE};
-use crate::outcome::{RunFault, Summary};
+use crate::outcome::{RunFault, RunSummary};
 use arrayvec::ArrayVec;
 use ll_device::{Reader, Writer};
 use std::alloc::Global;
 
-/// The bytes of a read.
+/// The largest number of bytes of one read.
 const PIECE: usize = 65_536;
 
-/// The bytes of the longest line with a CR.
+/// The number of bytes of the longest line with a CR.
 const ROOM: usize = LONGEST_LINE + 1;
 
-/// The most reads of a run: one that isn't at the end after them takes its reader for one that has none.
+/// The largest number of reads of a run, after which a reader counts as endless.
 const MOST_READS: u64 = 1 << 32;
 
-/// A script in the midst of its bytes: what drives its lines, and the bytes since the last LF, with room for the longest line and a CR.
-/// Keeping a byte takes no memory, so that a line's fault is told whatever memory there is. It must be closed.
+/// A script of which some bytes were read: its driver, and the bytes since the last LF, with room for the longest line and a CR. Keeping a
+/// byte allocates nothing, so a line that is too long is always reported as such. It must be consumed by [`Stream::close`].
 struct Stream {
     driver: Driver,
     line: ArrayVec<u8, ROOM>,
 }
 
-/// A line less the CR that stands before its LF.
+/// Returns `line` without the CR that stands before its LF, if there is one.
 fn without_carriage_return(line: &[u8]) -> &[u8]
     ensures { result.now ≡ strip_carriage_return line.now }
 {
@@ -37,7 +38,7 @@ fn without_carriage_return(line: &[u8]) -> &[u8]
 }
 
 impl Stream {
-    /// A stream before any byte.
+    /// Returns a stream before any byte.
     fn new(alloc: Global) -> Stream
         ensures stands { (base : Option (List ℕ)) → StandsFor result.line.items result.driver base base [] }
         ensures lines { result.driver.lines ≡ 0 }
@@ -48,7 +49,7 @@ impl Stream {
         }
     }
 
-    /// Keeps a byte that ends no line, unless the line is too long whatever follows.
+    /// Keeps a byte that ends no line. It fails if the line is too long whatever follows.
     fn keep(&mut self, b: u8) -> Result<(), RunFault>
         requires { self.old.driver.lines < 2 ^ 64 - 1 }
         ensures kept { OnOk result (self.new.line.items ≡ self.old.line.items ++ b ∷ []) }
@@ -65,7 +66,7 @@ impl Stream {
         }
     }
 
-    /// Takes a byte: LF ends a line, and any other is kept.
+    /// Takes a byte: LF ends a line, and any other byte is kept.
     fn byte<W: Writer>(&mut self, b: u8, writer: &mut W) -> Result<(), RunFault>
         requires { self.old.driver.lines < 2 ^ 64 - 1 }
         ensures ok { OnOk result ((bytes : List ℕ) (base : Option (List ℕ))
@@ -87,7 +88,7 @@ impl Stream {
         Ok(())
     }
 
-    /// Takes the bytes that a read gave.
+    /// Takes the bytes of one read.
     fn feed<W: Writer>(&mut self, piece: &[u8], writer: &mut W) -> Result<(), RunFault>
         requires { self.old.driver.lines + length piece.now < 2 ^ 64 - 1 }
         ensures ok { OnOk result ((bytes : List ℕ) (base : Option (List ℕ))
@@ -106,8 +107,8 @@ impl Stream {
         Ok(())
     }
 
-    /// Takes the last line, if bytes follow the last LF, and tells what the script came to.
-    fn finish<W: Writer>(&mut self, writer: &mut W) -> Result<Summary, RunFault>
+    /// Takes the last line, if bytes follow the last LF, and returns the counts of the script.
+    fn finish<W: Writer>(&mut self, writer: &mut W) -> Result<RunSummary, RunFault>
         requires { self.old.driver.lines < 2 ^ 64 - 1 }
         ensures whole { IfOk result (λ summary. (bytes : List ℕ) (base : Option (List ℕ))
             → StandsFor self.old.line.items self.old.driver base (W.written writer.old) bytes
@@ -124,20 +125,20 @@ impl Stream {
         Ok(self.driver.summary())
     }
 
-    /// Gives all requests up that still wait; they get no reply.
+    /// Ends all connections, and closes all requests that still wait, without a reply.
     fn close(self) {
         let Stream { driver, line: _ } = self;
         driver.finish();
     }
 }
 
-/// Reads to the end, but no more often than this, and takes each piece; one clause says what each fault means.
+/// Reads to the end, but at most `reads` times, and takes each piece. The clause `stopped` says what each fault means.
 fn read_all<R: Reader, W: Writer>(
     stream: &mut Stream,
     reader: &mut R,
     writer: &mut W,
     reads: u64,
-) -> Result<Summary, RunFault>
+) -> Result<RunSummary, RunFault>
     requires fresh { (base : Option (List ℕ)) → StandsFor stream.old.line.items stream.old.driver base base [] }
     requires lines { stream.old.driver.lines ≡ 0 }
     ensures whole { IfOk result (λ summary. (input : List ℕ) → R.left reader.old ≡ Some input
@@ -162,13 +163,13 @@ fn read_all<R: Reader, W: Writer>(
     Err(RunFault::Endless)
 }
 
-/// Runs the script that the reader gives, and writes what it says to the writer. An item or a request for which no memory is found is answered
-/// so, and the run goes on: what is written is what the script says with what memory was found for, line by line.
+/// Runs the script of `reader`, and writes its answers to `writer`, line by line. An item or a request that is out of memory is answered so,
+/// and the run goes on. If it ends early, for a [`RunFault`], a prefix of all answers is written.
 pub fn run<R: Reader, W: Writer>(
     alloc: Global,
     reader: &mut R,
     writer: &mut W,
-) -> Result<Summary, RunFault>
+) -> Result<RunSummary, RunFault>
     ensures whole { (input : List ℕ) → R.left reader.old ≡ Some input → IfOk result (IsWhole (W.written writer.old) (W.written writer.new) input) }
     ensures bad_line { (input : List ℕ) (n : ℕ) → R.left reader.old ≡ Some input → IsErrOf result (RunFault.BadLine n)
         → EndsBy (script.BadLine n) (W.written writer.old) (W.written writer.new) input }
@@ -193,14 +194,13 @@ pub fn run<R: Reader, W: Writer>(
     run_within(alloc, reader, writer, MOST_READS)
 }
 
-/// Runs the script that the reader gives, and writes what it says to the writer, as [`run`] does, but answers Endless after so many reads;
-/// more than 2^32 count as 2^32.
+/// Runs the script of `reader` as [`run`] does, but returns [`RunFault::Endless`] after `reads` reads; more than 2^32 count as 2^32.
 pub fn run_within<R: Reader, W: Writer>(
     alloc: Global,
     reader: &mut R,
     writer: &mut W,
     reads: u64,
-) -> Result<Summary, RunFault>
+) -> Result<RunSummary, RunFault>
     ensures whole { (input : List ℕ) → R.left reader.old ≡ Some input → IfOk result (IsWhole (W.written writer.old) (W.written writer.new) input) }
     ensures bad_line { (input : List ℕ) (n : ℕ) → R.left reader.old ≡ Some input → IsErrOf result (RunFault.BadLine n)
         → EndsBy (script.BadLine n) (W.written writer.old) (W.written writer.new) input }

@@ -1,4 +1,4 @@
-//! Tests of `ll_replay`. They stand here so that it is not proved a second time for its tests.
+//! Tests of `ll_replay`. They have a crate of their own so that `ll_replay` isn't proved a second time for them.
 #![tactic(auto)]
 
 #[cfg(test)]

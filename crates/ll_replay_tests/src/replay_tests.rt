@@ -1,8 +1,8 @@
-//! Scripts and what they write, over devices that give and take a few bytes at a time, and that fail.
+//! Tests of scripts and what they write, over devices that give and take a few bytes at a time, and that fail.
 ghost use Rattle.std.specs.Prelude.{◌≡◌, ◌+◌, Some};
 
 use ll_device::{Failed, Reader, TwoCounts, Writer};
-use ll_replay::{RunFault, Summary, run, run_within};
+use ll_replay::{RunFault, RunSummary, run, run_within};
 use std::alloc::{AllocError, Global};
 use std::marker::Brand;
 use std::sync::ledger::{Blank, Ledger};
@@ -11,7 +11,7 @@ use std::test::Fail;
 const CHANNEL: &[u8] =
     b"channel cam target=4 part=1000000 skip=24 window=36 renditions=hi first=0 start=0\n";
 
-/// An item that is a whole segment, and a request for the playlist then.
+/// The lines of an item that is a whole segment, and of a request for the playlist after it.
 const ONE_SEGMENT: &[u8] = b"pub cam part hi 1000000 if\nget 1 /cam/hi/live.m3u8\n";
 
 const ONE_SEGMENT_TEXT: &[u8] =
@@ -22,7 +22,7 @@ const ONE_SEGMENT_TEXT: &[u8] =
 #EXT-X-PART:DURATION=1.000000,URI=\"s0.0.m4s\",INDEPENDENT=YES\n#EXTINF:1.000000,\ns0.m4s\n\
 #EXT-X-PRELOAD-HINT:TYPE=PART,URI=\"s1.0.m4s\"\n";
 
-/// Items, of which three are accepted.
+/// The lines of nine items, of which three are accepted.
 const ITEMS: &[u8] = b"pub cam break hi\npub cam part hi 1 i\npub cam break hi\npub cam break lo\n\
 pub cam range hi ID=a\npub cam range lo ID=a\npub cam range hi\n\
 pub cam end hi\npub cam end hi\n";
@@ -31,26 +31,26 @@ const ITEMS_TEXT: &[u8] =
     b"ok 1\nok 2\nno 5 OpenSegment\nno 1 NoRendition\nno 9 BadAttribute\nno 1 NoRendition\n\
 no 13 BadLine\nok 3\nno 2 Ended\n";
 
-/// Questions where a rendition stands, which are no events and no replies, and two items.
+/// Lines that ask where a rendition stands, which are no events and get no replies, and two items.
 const QUESTIONS: &[u8] = b"pub cam at hi\npub cam part hi 600001 i\npub cam at hi\npub cam at lo\n\
 pub cam end hi\npub cam at hi\n";
 
 const QUESTIONS_TEXT: &[u8] =
     b"at 0 0 0 0 0\nok 1\nat 1 0 1 600001 601\nno 1 NoRendition\nok 2\nat 2 1 0 600001 601 ended\n";
 
-/// All bytes at once.
+/// A device that gives or takes all bytes at once.
 const WHOLE: Device = Device {
     step: 100_000,
     times: 1_000,
 };
 
-/// Bytes that are read so many at a time, until a read fails.
+/// A device that is read `step` bytes at a time, until a read fails.
 #[derive(Drop)]
 struct Source<'a, L: Ledger> {
     rest: &'a [u8],
     step: usize,
     reads: usize,
-    /// Uses that went well, and uses that failed.
+    /// How many uses succeeded, and how many failed.
     uses: TwoCounts<L>,
 }
 
@@ -76,13 +76,13 @@ impl<L: Ledger> Reader for Source<'_, L> {
     }
 }
 
-/// A text that is written so many bytes at a time, until a write fails.
+/// A device that takes `step` bytes at a time, until a write fails.
 #[derive(Drop)]
 struct Sink<L: Ledger> {
     text: Vec<u8>,
     step: usize,
     writes: usize,
-    /// Uses that went well, and uses that failed.
+    /// How many uses succeeded, and how many failed.
     uses: TwoCounts<L>,
 }
 
@@ -111,21 +111,21 @@ impl<L: Ledger> Writer for Sink<L> {
     }
 }
 
-/// What a run came to, and what it wrote.
+/// The result of a run, and what it wrote.
 #[derive(Drop)]
 struct Ran {
-    result: Result<Summary, RunFault>,
+    result: Result<RunSummary, RunFault>,
     text: Vec<u8>,
 }
 
-/// How many bytes a device takes at a time, and how many times before it fails.
+/// How many bytes a device gives or takes at a time, and how many times before it fails.
 #[derive(Clone, Copy, Drop)]
 struct Device {
     step: usize,
     times: usize,
 }
 
-/// Runs a script, within so many reads where that is said.
+/// Runs a script, with at most `most` reads if that is given.
 fn run_by<L: Ledger, M: Ledger>(
     alloc: Global,
     script: &[u8],
@@ -172,7 +172,7 @@ fn run_most(alloc: Global, script: &[u8], from: Device, to: Device, most: Option
     run_by::<Brand, Brand>(alloc, script, from, to, most, Blank::new(2), Blank::new(2))
 }
 
-/// The channel's line and these lines after it.
+/// Returns a script of the channel's line and `lines` after it.
 fn after_channel(alloc: Global, lines: &[u8]) -> Result<Vec<u8>, AllocError> {
     let mut script = Vec::new(alloc);
     script.extend_from_slice(CHANNEL)?;
@@ -198,7 +198,7 @@ fn answers_come_in_any_pieces(rt: HostRuntime) -> Result<(), AllocError> {
                     times: 1_000,
                 };
                 let ran = run_with(rt.alloc(), &script, from, to);
-                let wanted = (Ok(Summary { events, replies }), text);
+                let wanted = (Ok(RunSummary { events, replies }), text);
                 assert_eq!(rt; (ran.result, ran.text.as_slice()), wanted);
             }
         }
@@ -213,7 +213,7 @@ fn failed_reads_stop_a_run(rt: HostRuntime) -> Result<(), AllocError> {
         for times in 0..script.len().div_ceil(step).saturating_add(1) {
             let ran = run_with(rt.alloc(), &script, Device { step, times }, WHOLE);
             let read = times.saturating_mul(step).min(script.len());
-            // the second line ends after 109 bytes, and the third after 133
+            // The second line ends after 109 bytes, and the third after 133.
             let text: &[u8] = match read {
                 0..109 => b"",
                 109..133 => b"ok 1\n",
@@ -235,7 +235,7 @@ fn failed_writes_stop_a_run(rt: HostRuntime) -> Result<(), AllocError> {
     for (step, writes) in [(1, ONE_SEGMENT_TEXT.len()), (5, 1), (1_000, 2)] {
         for times in 0..writes {
             let ran = run_with(rt.alloc(), &script, WHOLE, Device { step, times });
-            // (the first answer has 5 bytes)
+            // The first answer has 5 bytes.
             let taken = times
                 .saturating_mul(step.min(5))
                 .min(ONE_SEGMENT_TEXT.len());
@@ -249,12 +249,13 @@ fn failed_writes_stop_a_run(rt: HostRuntime) -> Result<(), AllocError> {
     Ok(())
 }
 
-/// A script of ten empty lines that is read a byte at a time is at its end with the eleventh read; a reader that gives no end is left.
+/// A script of ten empty lines that is read a byte at a time is at its end with the eleventh read. A run stops if the reader doesn't end in as many
+/// reads as it allows.
 #[test]
 fn reads_are_counted(rt: HostRuntime) {
     let script = b"\n\n\n\n\n\n\n\n\n\n".as_slice();
     let from = Device { step: 1, times: 20 };
-    let ended = Summary {
+    let ended = RunSummary {
         events: 0,
         replies: 0,
     };
@@ -270,7 +271,7 @@ fn reads_are_counted(rt: HostRuntime) {
     }
 }
 
-/// What each fault is called, which no contract says of those that `thiserror` spells.
+/// The names of the faults, which `thiserror` writes and no contract pins.
 #[test]
 fn faults_of_scripts_are_named(rt: HostRuntime) -> Result<(), Fail> {
     for (fault, name) in [

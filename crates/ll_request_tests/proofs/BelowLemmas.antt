@@ -1,6 +1,6 @@
--- The next ticket stays above those that are open.
+-- The next ticket stays above those of all open requests, whatever happens to the book.
 use Rattle.std.proofs.Common.{◌≡◌, ℕ, ◌<◌, ◌+◌, List, [], ◌∷◌, ◌++◌, Bool, true, false, None, cond, filter, map, refl, sym, ◌∙◌, subst, arith}
-use Rattle.ll_written.specs.Pages.{PagesOf}
+use Rattle.ll_page_cache.specs.Pages.{PagesOf}
 use Rattle.ll_book.specs.Release.{ReleaseLaw, Supply, expired, given_if, holders_of, is_over, over_if, released, takes}
 use Rattle.ll_book.specs.declared.release.Release.{Release}
 use Rattle.ll_verdict.specs.Waiting.{AreBelow}

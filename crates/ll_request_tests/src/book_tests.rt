@@ -1,19 +1,19 @@
-//! How many requests a release and a time-out look at, and a book that is full.
+//! Tests of how many requests a release and a time-out look at, and of a book that is full.
 use crate::kept::{Kept, pages};
 use ll_book::{ParkFault, Release};
 use ll_directive::Awaited;
+use ll_page_cache::Pages;
 use ll_verdict::Settled;
-use ll_written::Pages;
 use std::alloc::{AllocError, Global};
 use std::process::Abort;
 use std::test::Fail;
 
-/// How many requests may wait.
+/// How many requests can wait.
 const LIMIT: u64 = 65_536;
 
 const HALF: u64 = LIMIT / 2;
 
-/// Holds so many requests that await the same, until the same time: whether all are held.
+/// Holds `count` requests that await the same, with one deadline. Returns whether all are held.
 fn hold(kept: &mut Kept, count: u64, awaited: Awaited, deadline: u64) -> bool {
     for _ in 0..count {
         if kept.park(0, awaited, deadline).is_err() {
@@ -23,7 +23,7 @@ fn hold(kept: &mut Kept, count: u64, awaited: Awaited, deadline: u64) -> bool {
     true
 }
 
-/// A release: how many requests are looked at for its holders, how many it releases, and at how many it looks.
+/// A release, how many requests are looked at to find its holders, how many it releases, and at how many it looks.
 const RELEASES: [(Release, (usize, usize, usize)); 6] = [
     (Release::Part(0, 0, 0), (2, 1, 2)),
     (Release::Part(0, 0, 0), (1, 0, 1)),
@@ -56,7 +56,7 @@ fn check_releases(
     Ok(())
 }
 
-/// Holds the requests that these releases take: whether all are held.
+/// Holds the requests that the releases settle. Returns whether all are held.
 fn hold_both(kept: &mut Kept) -> bool {
     hold(kept, 1_000, Awaited::Part(2, 0), 12_000) && hold(kept, 1, Awaited::Part(0, 0), 12_000)
 }
@@ -67,7 +67,7 @@ fn check_held(rt: &impl Abort, alloc: Global, pages: &mut Pages) -> Result<(), A
     check_releases(rt, alloc, &mut kept, pages)
 }
 
-/// A release and the making of its holders look at what they take, and one.
+/// A release looks only at the requests that it settles and at one more, and so does the search for its holders.
 #[test]
 fn releases_look_at_what_they_take(rt: HostRuntime) -> Result<(), Fail> {
     let mut pages = pages(rt.alloc(), 0)?;
@@ -85,7 +85,7 @@ fn time_outs_look_at_what_is_over(rt: HostRuntime) {
     }
 }
 
-/// Takes all replies, the first ticket first: how many time-outs they are, where their tickets rise.
+/// Takes all replies in order of their tickets, which rise. Returns how many time-outs come before any other reply.
 fn take_all(rt: &impl Abort, kept: &mut Kept) -> u64 {
     let (mut count, mut last) = (0u64, 0);
     for _ in 0..LIMIT {
@@ -102,7 +102,7 @@ fn take_all(rt: &impl Abort, kept: &mut Kept) -> u64 {
     count
 }
 
-/// Fills a book, half of it until an earlier time: whether that went well, and one more request finds it busy.
+/// Fills a book, and gives half of the requests an earlier deadline. Returns whether all are held, and one more finds the book busy.
 fn fill(kept: &mut Kept) -> bool {
     let is_held = hold(kept, HALF, Awaited::Part(2, 0), 1_000)
         && hold(kept, HALF, Awaited::Segment(3), 2_000);
@@ -119,7 +119,7 @@ fn check_full(rt: &impl Abort, kept: &mut Kept) {
     assert!(rt; hold(kept, HALF, Awaited::Part(0, 0), 3_000) && kept.book().is_busy());
 }
 
-/// As many requests wait as may wait; those that time out make room, and are handed out in order.
+/// As many requests wait as can wait; those that time out make room, and are handed out in order.
 #[test]
 fn full_book_is_busy(rt: HostRuntime) {
     let mut kept = Kept::new(rt.alloc());

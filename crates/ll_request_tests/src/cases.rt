@@ -5,19 +5,19 @@ use ll_room::{Parked, Stored};
 use std::alloc::Global;
 use std::process::Abort;
 
-/// A recorder of a channel of these settings, to which nothing has happened.
+/// Returns a recorder of a channel with the settings of `line`, to which nothing has happened.
 pub(crate) fn recorder(rt: &impl Abort, alloc: Global, line: &str) -> Recorder {
     let settings = Settings::read(alloc, line).expect(rt, "settings");
     Recorder::new(alloc, 0, settings).expect(rt, "memory")
 }
 
-/// Keeps a held request.
+/// Keeps the value of a held request.
 pub(crate) fn keep(rt: &impl Abort, kept: &mut Vec<Stored>, parked: Parked) {
     kept.reserve(1).expect(rt, "memory");
     kept.push_reserved(parked.store());
 }
 
-/// Spends the values of requests with a recorder to which nothing has happened: the requests stay open where they are held.
+/// Drops the values of requests with `other`, a recorder to which nothing has happened. The requests stay open where they are held.
 pub(crate) fn spend(rt: &impl Abort, kept: Vec<Stored>, other: &Recorder) {
     let mut left = kept;
     while let Some(one) = left.pop() {

@@ -1,22 +1,22 @@
-//! Numbers that look random, and are the same at each run.
+//! Pseudorandom numbers, which are the same at each run.
 ghost use Rattle.std.specs.Prelude.{◌<◌, length};
 
-/// A linear congruence: each number comes from the one before.
+/// A linear congruential generator.
 #[derive(Drop)]
 pub(crate) struct Dice {
     state: u64,
 }
 
 impl Dice {
-    /// The dice of this number.
+    /// Returns the dice of this seed.
     pub(crate) fn new(seed: u64) -> Dice {
-        // Numbers that follow each other start far apart.
+        // Seeds that follow each other start far apart.
         Dice {
             state: seed.wrapping_mul(0x9e37_79b9_7f4a_7c15),
         }
     }
 
-    /// A number from 0 on, below that of the sides.
+    /// Returns a number from 0 on, below `sides`.
     pub(crate) fn roll(&mut self, sides: u64) -> u64
         requires { 0 < sides }
         ensures { result < sides }
@@ -27,7 +27,7 @@ impl Dice {
         (self.state >> 33) % sides
     }
 
-    /// One of these.
+    /// Returns one of `words`.
     pub(crate) fn pick(&mut self, words: &[&'static str]) -> &'static str
         requires { 0 < length words.now }
     {

@@ -1,4 +1,4 @@
-//! Records that are full.
+//! Tests of records that are full.
 use crate::cases::{keep, recorder, spend};
 use ll_directive::read_target;
 use ll_item::{Item, Payload};
@@ -11,15 +11,15 @@ use std::process::Abort;
 const CHANNEL: &str =
     "channel cam target=4 part=1000000 skip=24 window=36 renditions=hi,lo first=0 start=0";
 
-/// How many items, requests and readings a record holds.
+/// How many items, requests and readings a record can hold.
 const HELD: u64 = 65_536;
 
-/// How many entries the record has that is handed out.
+/// Hands out the record, and returns how many entries it has.
 fn rotated(rt: &impl Abort, recorder: &mut Recorder) -> u64 {
     recorder.rotate().expect(rt, "memory").entries()
 }
 
-/// What a part gets that is published: how many items the channel has then accepted.
+/// Publishes a part. Returns how many items the channel has accepted then.
 fn published(rt: &impl Abort, alloc: Global, recorder: &mut Recorder) -> Result<u64, PublishFault> {
     let line = "part hi 1000000 if";
     let item = Item::read(alloc, recorder.room().settings(), line, &Payload::none()).expect(
@@ -31,7 +31,7 @@ fn published(rt: &impl Abort, alloc: Global, recorder: &mut Recorder) -> Result<
     }
 }
 
-/// What a request for the first segment gets. One that is held is kept.
+/// Makes a request for the first segment, and keeps its value if it is held. Returns its answer.
 fn asked(
     rt: &impl Abort,
     alloc: Global,
@@ -53,7 +53,7 @@ fn asked(
     }
 }
 
-/// Gives up the request that was kept last.
+/// Closes the request that was kept last.
 fn close_last(rt: &impl Abort, recorder: &mut Recorder, kept: &mut Vec<Stored>) {
     if let Some(one) = kept.pop() {
         match recorder.close(one.into_parked()) {
@@ -63,7 +63,7 @@ fn close_last(rt: &impl Abort, recorder: &mut Recorder, kept: &mut Vec<Stored>) 
     }
 }
 
-/// What an item, a request and a reading get, which come in this order.
+/// Returns the results of an item, a request and a reading, in this order.
 fn each(rt: &impl Abort, alloc: Global, recorder: &mut Recorder, kept: &mut Vec<Stored>) -> String {
     let item = published(rt, alloc, recorder);
     let request = asked(rt, alloc, recorder, kept);
@@ -71,7 +71,7 @@ fn each(rt: &impl Abort, alloc: Global, recorder: &mut Recorder, kept: &mut Vec<
     format!(in alloc; "{item:?} {request:?} {reading:?}").expect(rt, "memory")
 }
 
-/// A recorder whose record is full of readings of the clock.
+/// Returns a recorder whose record is full of readings of the clock.
 fn full_of_readings(rt: &impl Abort, alloc: Global) -> Recorder {
     let mut recorder = recorder(rt, alloc, CHANNEL);
     for ms in 0..HELD {
@@ -99,7 +99,7 @@ fn full_record_refuses_until_handed_out(rt: HostRuntime) {
     );
 }
 
-/// A recorder whose record is full of requests that are held.
+/// Returns a recorder whose record is full of requests that are held.
 fn full_of_requests(rt: &impl Abort, alloc: Global, kept: &mut Vec<Stored>) -> Recorder {
     let mut recorder = recorder(rt, alloc, CHANNEL);
     for _ in 0..HELD {
@@ -108,7 +108,7 @@ fn full_of_requests(rt: &impl Abort, alloc: Global, kept: &mut Vec<Stored>) -> R
     recorder
 }
 
-/// As many requests as a record holds are as many as may be held in a channel.
+/// A record holds as many requests as a channel can hold.
 #[test]
 fn full_record_of_held_requests(rt: HostRuntime) {
     let alloc = rt.alloc();

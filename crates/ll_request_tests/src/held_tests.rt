@@ -1,7 +1,7 @@
-//! Requests that wait in a channel, step by step.
+//! A test of requests that wait in a channel, step by step.
 use ll_directive::read_target;
 use ll_item::{Item, Payload, Settings};
-use ll_rooms::{ActAnswer, Owner, Rooms};
+use ll_script_rooms::{ActAnswer, Owner, Rooms};
 use ll_verdict::Reply;
 use std::alloc::Global;
 use std::process::Abort;
@@ -10,7 +10,7 @@ use std::test::Fail;
 const CHANNEL: &str =
     "channel cam target=4 part=1000000 skip=24 window=36 renditions=hi first=0 start=0";
 
-/// A part that starts a segment, or goes on with one.
+/// A part that doesn't finish its segment.
 const PART: Step = Step::Offer("part hi 1000000 i");
 
 /// The last part of a segment.
@@ -21,17 +21,17 @@ const LAST_PART: Step = Step::Offer("part hi 1000000 if");
 enum Step {
     /// The item of this line is offered.
     Offer(&'static str),
-    /// A request under this number for this target is made.
+    /// A request under this number, for this target, is made.
     Ask(u64, &'static str),
-    /// The request under this number is given up.
+    /// The request under this number is closed.
     Close(u64),
-    /// The clock shows so many milliseconds.
+    /// The clock shows this many milliseconds.
     Clock(u64),
-    /// The first reply that is due is told.
+    /// The first reply that is due is handed out.
     Due,
 }
 
-/// A reply is of the moment at which it was decided, whatever comes until it is told; requests of one form get the same.
+/// A reply is of the moment at which it was decided, whatever comes before it is handed out; requests of one form get the same.
 const LATER: &[(Step, &str)] = &[
     (PART, "ok 1"),
     (Step::Ask(1, "/cam/hi/live.m3u8?_HLS_msn=0&_HLS_part=1"), ""),
@@ -56,7 +56,7 @@ const LATER: &[(Step, &str)] = &[
     (Step::Due, ""),
 ];
 
-/// A request for the part after the last one of a finished segment waits for the first part of the next.
+/// A request for the part after the last one of a finished segment awaits the first part of the next segment.
 const PAST_THE_LAST: &[(Step, &str)] = &[
     (PART, "ok 1"),
     (LAST_PART, "ok 2"),
@@ -74,7 +74,7 @@ const PAST_THE_LAST: &[(Step, &str)] = &[
     (Step::Due, ""),
 ];
 
-/// An earlier reading of the clock changes nothing: neither what a request is given, nor when its time is over.
+/// An earlier reading of the clock changes neither what a request gets, nor when it times out.
 const EARLIER_READINGS: &[(Step, &str)] = &[
     (Step::Clock(20_000), ""),
     (Step::Clock(5_000), ""),
@@ -106,7 +106,7 @@ const AT_ONCE: &[(Step, &str)] = &[
     (Step::Due, ""),
 ];
 
-/// What comes of a step: the answer, or nothing; none where a line can't be read or no memory is found.
+/// Takes a step. Returns its answer, which may be empty, or `None` if a line can't be read or the call fails.
 fn take(alloc: Global, rooms: &mut Rooms, step: Step) -> Option<String> {
     let answer = match step {
         Step::Offer(line) => {
@@ -128,7 +128,7 @@ fn take(alloc: Global, rooms: &mut Rooms, step: Step) -> Option<String> {
     told(alloc, answer)
 }
 
-/// An answer as a text: of an item the count, of a reply its number and its name or the last line of its playlist.
+/// Returns an answer as a text: of an item the count, of a reply its number, and its name or the last line of its playlist.
 fn told(alloc: Global, answer: Option<ActAnswer>) -> Option<String> {
     match answer {
         None => Some(String::new(alloc)),
@@ -140,7 +140,7 @@ fn told(alloc: Global, answer: Option<ActAnswer>) -> Option<String> {
     }
 }
 
-/// The name of a reply, or the last line of its playlist.
+/// Returns the name of a reply, or the last line of its playlist.
 fn reply_told(reply: &Reply) -> &str {
     match reply {
         Reply::Text(page) => page.text().lines().last().unwrap_or(""),
@@ -152,7 +152,7 @@ fn reply_told(reply: &Reply) -> &str {
     }
 }
 
-/// Takes these steps in turn, each of which comes to what stands beside it.
+/// Takes the steps of `rows` in turn, and compares each answer with what stands beside the step.
 fn follow(
     rt: &impl Abort,
     alloc: Global,

@@ -1,4 +1,4 @@
-//! A book whose requests get their tickets one after another.
+//! A book whose requests get their tickets one after another, and the pages that its releases need.
 ghost use Rattle.std.specs.Prelude.{◌≡◌};
 ghost use Rattle.ll_verdict.specs.Waiting.{AreBelow};
 
@@ -6,10 +6,10 @@ use ll_book::{Book, ParkFault, Release, Released, release_law};
 use ll_directive::Awaited;
 use ll_item::{Item, Payload, Settings, What};
 use ll_page::{Rendition, Shown};
+use ll_page_cache::Pages;
 use ll_range::Ranges;
 use ll_verdict::{Entry, Settled, Wanted};
 use ll_window::Window;
-use ll_written::Pages;
 use std::alloc::{AllocError, Global};
 use std::marker::Model;
 use std::test::Fail;
@@ -34,7 +34,7 @@ impl Model for Kept {
 }
 
 impl Kept {
-    /// No requests.
+    /// Returns a book without requests.
     pub(crate) fn new(alloc: Global) -> Kept {
         Kept {
             book: Book::new(alloc),
@@ -42,12 +42,12 @@ impl Kept {
         }
     }
 
-    /// What is kept.
+    /// Returns the book.
     pub(crate) fn book(&self) -> &Book {
         &self.book
     }
 
-    /// Holds a request for the full playlist of a rendition: its ticket.
+    /// Holds a request for the full playlist of a rendition. Returns its ticket.
     pub(crate) fn park(
         &mut self,
         rendition: usize,
@@ -73,7 +73,7 @@ impl Kept {
         Ok(ticket)
     }
 
-    /// Releases requests: how many were looked at for the holders, and what the release came to.
+    /// Releases requests. Returns how many were looked at to find the holders, and the result of the release.
     pub(crate) fn release(
         &mut self,
         alloc: Global,
@@ -93,23 +93,23 @@ impl Kept {
         Ok((looked, released))
     }
 
-    /// Gives up those whose time is over.
+    /// Times out the requests whose deadline is at most `now`.
     pub(crate) fn expire(&mut self, now: u64) -> Released {
         self.book.expire(now)
     }
 
-    /// Hands out a reply.
+    /// Takes the reply of a request.
     pub(crate) fn take(&mut self, ticket: u64) -> Option<Settled> {
         self.book.take(ticket)
     }
 
-    /// Forgets a request.
+    /// Removes a request from the book.
     pub(crate) fn drop_ticket(&mut self, ticket: u64) -> Released {
         self.book.drop_ticket(ticket)
     }
 }
 
-/// The pages of one of two renditions that have a part each.
+/// Returns the pages of one of two renditions that have a part each.
 pub(crate) fn pages(alloc: Global, rendition: usize) -> Result<Pages, Fail> {
     let line =
         "channel cam target=4 part=1000000 skip=24 window=36 renditions=hi,lo first=0 start=0";
@@ -131,7 +131,7 @@ fn pages_of(
     Pages::new(alloc, shown, rendition, None)
 }
 
-/// A rendition to which this part was published. No item that is refused is told apart from no memory.
+/// Returns a rendition in which the part of `text` was published. A refused item is an `AllocError` too.
 fn rendition_of(alloc: Global, settings: &Settings, text: &str) -> Result<Rendition, AllocError> {
     let mut window = Window::new(alloc, settings)?;
     let Ok(item) = Item::read(alloc, settings, text, &Payload::none()) else {

@@ -1,4 +1,5 @@
-//! Tests of `ll_book`, `ll_room`, `ll_rooms` and `ll_record`. They stand here so that none of these is proved a second time for its tests.
+//! Tests of `ll_book`, `ll_room`, `ll_script_rooms` and `ll_record`. They have a crate of their own so that none of these is proved a second time for
+//! them.
 #![tactic(auto)]
 
 #[cfg(test)]

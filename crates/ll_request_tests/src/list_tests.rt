@@ -1,15 +1,15 @@
-//! A book against a plain list of who waits.
+//! A test that compares a book with a plain list of its requests, at random events.
 use crate::dice::Dice;
 use crate::kept::{Kept, pages};
 use ll_book::{Book, Release};
 use ll_directive::Awaited;
+use ll_page_cache::Pages;
 use ll_verdict::Settled;
-use ll_written::Pages;
 use std::alloc::{AllocError, Global};
 use std::process::Abort;
 use std::test::Fail;
 
-/// A request as a plain list keeps it.
+/// A request as the plain list keeps it. Its reply is empty while it waits.
 #[derive(Clone, Copy)]
 struct Row {
     ticket: u64,
@@ -19,7 +19,7 @@ struct Row {
     reply: &'static str,
 }
 
-/// What a request may await.
+/// Returns what a request may await.
 fn awaited(dice: &mut Dice) -> Awaited {
     match dice.roll(5) {
         0 => Awaited::Nothing,
@@ -28,7 +28,7 @@ fn awaited(dice: &mut Dice) -> Awaited {
     }
 }
 
-/// A release of one of two renditions.
+/// Returns a release of this rendition.
 fn release(dice: &mut Dice, rendition: usize) -> Release {
     match dice.roll(9) {
         0 => Release::All(rendition),
@@ -37,7 +37,7 @@ fn release(dice: &mut Dice, rendition: usize) -> Release {
     }
 }
 
-/// Whether a release takes a request of the list.
+/// Returns whether a release settles a request of the list.
 fn is_taken(which: Release, row: Row) -> bool {
     if !row.reply.is_empty() {
         return false;
@@ -54,7 +54,7 @@ fn is_taken(which: Release, row: Row) -> bool {
     }
 }
 
-/// Gives the text to those of the list that a release takes: how many they are.
+/// Gives the text to those of the list that a release settles, and returns how many they are.
 fn release_rows(rows: &mut Vec<Row>, which: Release) -> usize {
     let mut count = 0usize;
     for row in rows.iter_mut() {
@@ -66,7 +66,7 @@ fn release_rows(rows: &mut Vec<Row>, which: Release) -> usize {
     count
 }
 
-/// Gives up those of the list whose time is over: how many they are.
+/// Times out those of the list whose deadline is at most `now`, and returns how many they are.
 fn expire_rows(rows: &mut Vec<Row>, now: u64) -> usize {
     let mut count = 0usize;
     for row in rows.iter_mut() {
@@ -78,7 +78,7 @@ fn expire_rows(rows: &mut Vec<Row>, now: u64) -> usize {
     count
 }
 
-/// Takes the reply of a ticket from the list, where it is there.
+/// Takes the request of a ticket off the list if it has a reply, and returns that, or else an empty text.
 fn take_row(rows: &mut Vec<Row>, ticket: u64) -> &'static str {
     let Some(place) = rows
         .iter()
@@ -89,7 +89,7 @@ fn take_row(rows: &mut Vec<Row>, ticket: u64) -> &'static str {
     rows.remove(place).reply
 }
 
-/// The name of a reply.
+/// Returns the name of a reply.
 fn name(settled: Option<Settled>) -> &'static str {
     match settled {
         Some(Settled::Text(_)) => "text",
@@ -100,7 +100,7 @@ fn name(settled: Option<Settled>) -> &'static str {
     }
 }
 
-/// A book, a plain list of who waits, and the pages of the renditions.
+/// A book, a plain list of its requests, and the pages of the renditions.
 #[derive(Drop)]
 struct Both {
     kept: Kept,
@@ -109,7 +109,7 @@ struct Both {
 }
 
 impl Both {
-    /// Holds a request.
+    /// Holds a request in both.
     fn park(
         &mut self,
         rendition: usize,
@@ -130,7 +130,7 @@ impl Both {
         }
     }
 
-    /// Releases requests: whether as many leave the book as the list.
+    /// Releases requests in both. Returns whether as many leave the one as the other.
     fn release(
         &mut self,
         alloc: Global,
@@ -144,17 +144,17 @@ impl Both {
         Ok(then.released == release_rows(&mut self.rows, which))
     }
 
-    /// Gives up those whose time is over: whether as many leave the book as the list.
+    /// Times out requests in both. Returns whether as many leave the one as the other.
     fn expire(&mut self, now: u64) -> bool {
         self.kept.expire(now).released == expire_rows(&mut self.rows, now)
     }
 
-    /// Takes a reply: whether it is the same.
+    /// Takes a reply of both. Returns whether it is the same.
     fn take(&mut self, ticket: u64) -> bool {
         name(self.kept.take(ticket)) == take_row(&mut self.rows, ticket)
     }
 
-    /// Forgets a request: whether as many leave the book as the list.
+    /// Removes a request from both. Returns whether as many leave the one as the other.
     fn drop_ticket(&mut self, ticket: u64) -> bool {
         let before = self.rows.len();
         self.rows.retain(|row| row.ticket != ticket);
@@ -162,7 +162,7 @@ impl Both {
         self.kept.drop_ticket(ticket).released == gone
     }
 
-    /// One event: whether the book tells what the list tells.
+    /// Makes one random event happen. Returns whether book and list agree.
     fn step(&mut self, alloc: Global, dice: &mut Dice) -> Result<bool, AllocError> {
         let rendition = dice.roll(2) as usize;
         let ticket = dice.roll(400);
@@ -183,11 +183,10 @@ impl Both {
     }
 }
 
-/// How many requests there are, how many of them wait, the first ticket that has a reply, and whether this ticket is there and whether it
-/// has a reply.
+/// How many requests there are, how many of them wait, the first ticket that has a reply, and whether a given ticket is there and has a reply.
 type State = (usize, usize, Option<u64>, bool, bool);
 
-/// What a book tells.
+/// Returns the state of a book.
 fn book_state(book: &Book, ticket: u64) -> State {
     (
         book.len(),
@@ -198,7 +197,7 @@ fn book_state(book: &Book, ticket: u64) -> State {
     )
 }
 
-/// What the list tells.
+/// Returns the state of the list.
 fn list_state(rows: &[Row], ticket: u64) -> State {
     let ready = rows.iter().find(|row| !row.reply.is_empty());
     let found = rows.iter().find(|row| row.ticket == ticket);
@@ -223,7 +222,7 @@ fn check_events(rt: &impl Abort, alloc: Global, both: &mut Both) -> Result<(), A
     Ok(())
 }
 
-/// After any events, the book is what the plain list is.
+/// After any events, the book agrees with the plain list.
 #[test]
 fn books_are_plain_lists(rt: HostRuntime) -> Result<(), Fail> {
     let alloc = rt.alloc();

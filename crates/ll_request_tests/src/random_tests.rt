@@ -1,4 +1,4 @@
-//! Recorders under random scripts.
+//! Tests of recorders that play random scripts.
 use crate::script::{Chunks, Played, play};
 use std::alloc::Global;
 use std::process::Abort;
@@ -6,7 +6,7 @@ use std::process::Abort;
 /// How many scripts are played.
 const SCRIPTS: u64 = 500;
 
-/// What calls get, and the names of replies.
+/// What calls return, and the names of replies.
 const ANSWERS: [&str; 12] = [
     "accepted",
     "refused",
@@ -25,7 +25,7 @@ const ANSWERS: [&str; 12] = [
 /// How often each answer comes at least.
 const OFTEN: usize = 100;
 
-/// What came of all scripts.
+/// What all scripts together have shown.
 #[derive(Drop)]
 struct Totals {
     /// How many scripts have chunks that a check finds right.
@@ -35,7 +35,7 @@ struct Totals {
 }
 
 impl Totals {
-    /// Adds what came of a script.
+    /// Adds the answers of a script, and whether its chunks are right.
     fn add(&mut self, alloc: Global, played: &Played) {
         if played.is_right(alloc) {
             self.right = self.right.saturating_add(1);
@@ -45,13 +45,13 @@ impl Totals {
         }
     }
 
-    /// Whether each answer came often.
+    /// Returns whether each answer came often enough.
     fn have_all(&self) -> bool {
         self.answers.iter().all(|count| *count >= OFTEN)
     }
 }
 
-/// What comes of all scripts.
+/// Plays all scripts, and returns what they have shown.
 fn play_all(rt: &impl Abort, alloc: Global) -> Totals {
     let mut totals = Totals {
         right: 0,

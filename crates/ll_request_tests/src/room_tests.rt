@@ -1,8 +1,8 @@
-//! Rooms, and the values that stand for the requests that wait in them.
+//! Tests of rooms, and of the values that stand for the requests that wait in them.
 use ll_directive::read_target;
 use ll_item::{Item, Payload, Settings};
 use ll_room::{Asked, Closed, Collected, Parked, Room, Stamped};
-use ll_rooms::Shelf;
+use ll_script_rooms::Shelf;
 use ll_verdict::Reply;
 use std::alloc::Global;
 use std::process::Abort;
@@ -11,19 +11,19 @@ use std::test::Fail;
 const CHANNEL: &str =
     "channel cam target=4 part=1000000 skip=24 window=36 renditions=hi first=0 start=0";
 
-/// A request for the first part, which waits for it.
+/// The target of a request that awaits the first part.
 const FIRST_PART: &str = "/cam/hi/live.m3u8?_HLS_msn=0&_HLS_part=0";
 
-/// A request that waits for nothing.
+/// The target of a request that waits for nothing.
 const NOW: &str = "/cam/hi/live.m3u8";
 
-/// A room of this number to which nothing has happened.
+/// Returns a room of this number to which nothing has happened.
 fn room(alloc: Global, number: u64) -> Result<Room, Fail> {
     let settings = Settings::read(alloc, CHANNEL)?;
     Ok(Room::new(alloc, number, settings)?)
 }
 
-/// A part that is accepted: how many items the room has accepted with it.
+/// Publishes a part. Returns how many items the room has accepted with it.
 fn publish(rt: &impl Abort, alloc: Global, room: &mut Room) -> Stamped<u64> {
     let item = Item::read(
         alloc,
@@ -35,7 +35,7 @@ fn publish(rt: &impl Abort, alloc: Global, room: &mut Room) -> Stamped<u64> {
     room.publish(item).expect(rt, "the part is accepted")
 }
 
-/// A request that waits.
+/// Makes a request that waits, and returns its value.
 fn held(rt: &impl Abort, alloc: Global, room: &mut Room, target: &str) -> Parked {
     let want = read_target(alloc, target.as_bytes()).expect(rt, "a target");
     match room.ask(want) {
@@ -45,7 +45,7 @@ fn held(rt: &impl Abort, alloc: Global, room: &mut Room, target: &str) -> Parked
     }
 }
 
-/// A request that is answered at once.
+/// Makes a request that is answered at once, and returns its reply.
 fn answered(rt: &impl Abort, alloc: Global, room: &mut Room, target: &str) -> Stamped<Reply> {
     let want = read_target(alloc, target.as_bytes()).expect(rt, "a target");
     match room.ask(want) {
@@ -55,7 +55,7 @@ fn answered(rt: &impl Abort, alloc: Global, room: &mut Room, target: &str) -> St
     }
 }
 
-/// The reply to a request that waited.
+/// Collects the reply to a request that waited.
 fn collect(rt: &impl Abort, room: &mut Room, parked: Parked) -> Stamped<Reply> {
     match room.collect(parked) {
         Collected::Got(reply) => reply,
@@ -64,7 +64,7 @@ fn collect(rt: &impl Abort, room: &mut Room, parked: Parked) -> Stamped<Reply> {
     }
 }
 
-/// Gives a request up that waits in this room.
+/// Closes a request that waits in this room.
 fn close(rt: &impl Abort, room: &mut Room, parked: Parked) {
     match room.close(parked) {
         Closed::Done => {}
@@ -72,7 +72,7 @@ fn close(rt: &impl Abort, room: &mut Room, parked: Parked) {
     }
 }
 
-/// A request that doesn't wait in this room, neither collected nor given up there.
+/// Checks that a request of another room is neither collected nor closed in this one. Returns its value.
 fn strange(rt: &impl Abort, room: &mut Room, parked: Parked) -> Parked {
     let parked = match room.collect(parked) {
         Collected::Stranger(parked) => parked,
@@ -85,7 +85,7 @@ fn strange(rt: &impl Abort, room: &mut Room, parked: Parked) -> Parked {
     }
 }
 
-/// Puts a request on a shelf.
+/// Puts a request on a shelf. Returns its number there.
 fn put(rt: &impl Abort, shelf: &mut Shelf, parked: Parked) -> u64 {
     match shelf.put(parked) {
         Ok(number) => number,
@@ -93,7 +93,7 @@ fn put(rt: &impl Abort, shelf: &mut Shelf, parked: Parked) -> u64 {
     }
 }
 
-/// Of a request that waits in room 1, after room 0 took it for another's: its channel and its number.
+/// Makes a request that waits in room 1, and offers it to room 0, which refuses it. Returns its channel and its ticket.
 fn stranger(rt: &impl Abort, alloc: Global, zero: &mut Room, one: &mut Room) -> (u64, u64) {
     let parked = held(rt, alloc, one, FIRST_PART);
     let parked = strange(rt, zero, parked);
@@ -104,7 +104,7 @@ fn stranger(rt: &impl Abort, alloc: Global, zero: &mut Room, one: &mut Room) -> 
     is
 }
 
-/// A request that isn't returned to a room: it is another's, or is open.
+/// Checks that a request isn't returned to a room, as it is of another room or is open. Returns its value.
 fn kept(rt: &impl Abort, room: &Room, parked: Parked) -> Parked {
     match parked.return_to(room) {
         Ok(()) => panic!(rt; "it was returned"),
@@ -132,7 +132,7 @@ fn requests_that_are_not_open_are_given_back(rt: HostRuntime) -> Result<(), Fail
     }
 }
 
-/// Takes a request off a shelf, and gives it up: its number.
+/// Takes a request off a shelf, and closes it. Returns its ticket.
 fn take_off(rt: &impl Abort, shelf: &mut Shelf, room: &mut Room, place: u64) -> u64 {
     let Some(parked) = shelf.take(place) else {
         panic!(rt; "it is not there");
@@ -142,7 +142,7 @@ fn take_off(rt: &impl Abort, shelf: &mut Shelf, room: &mut Room, place: u64) -> 
     ticket
 }
 
-/// A shelf that isn't empty.
+/// Checks that a shelf isn't empty, and returns it.
 fn unfinished(rt: &impl Abort, shelf: Shelf) -> Shelf {
     match shelf.finish() {
         Ok(()) => panic!(rt; "nothing is left"),
@@ -150,7 +150,7 @@ fn unfinished(rt: &impl Abort, shelf: Shelf) -> Shelf {
     }
 }
 
-/// Puts two requests on a shelf and takes the second one off, which can't be done twice, and then the first: the numbers of the two.
+/// Puts two requests on a shelf; takes the second one off, which can't be done twice, and then the first. Returns their tickets in this order.
 fn shelved(rt: &impl Abort, alloc: Global, room: &mut Room) -> (u64, u64) {
     let mut shelf = Shelf::new(alloc);
     let first = held(rt, alloc, room, FIRST_PART);
@@ -177,7 +177,7 @@ fn shelves_keep_requests(rt: HostRuntime) -> Result<(), Fail> {
     Ok(())
 }
 
-/// How many items the channel had accepted when the text of a reply was written.
+/// Returns how many items the channel had accepted when the text of a reply was written.
 fn number(reply: &Reply) -> Option<u64> {
     match reply {
         Reply::Text(page) => Some(page.number()),
@@ -185,13 +185,13 @@ fn number(reply: &Reply) -> Option<u64> {
     }
 }
 
-/// Of a reply's text, how many items the channel had accepted: as its value is lent, and as it is given.
+/// Returns how many items the channel had accepted at a reply's text: first as the reply is lent, then as it is given.
 fn numbers(reply: Stamped<Reply>) -> (Option<u64>, Option<u64>) {
     let lent = number(reply.get());
     (lent, number(&reply.into_inner()))
 }
 
-/// A part more, and a request that is answered at once: the count that each is told, lent and given.
+/// Publishes a part, and makes a request that is answered at once. Returns the counts that each gets, lent and given.
 fn publish_and_ask(rt: &impl Abort, alloc: Global, room: &mut Room) -> [u64; 4] {
     let accepted = publish(rt, alloc, room);
     let (lent, given) = (*accepted.get(), accepted.into_inner());

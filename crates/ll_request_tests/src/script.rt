@@ -1,4 +1,4 @@
-//! Random scripts: what may happen to a channel that is recorded.
+//! Random scripts of all that can happen to a recorded channel.
 use crate::cases::{keep, recorder, spend};
 use crate::dice::Dice;
 use ll_check::check;
@@ -10,11 +10,11 @@ use ll_verdict::Reply;
 use std::alloc::{AllocError, Global};
 use std::process::Abort;
 
-/// A channel of short segments, so that some leave the playlists while a script goes on.
+/// The settings of a channel with segments so short that some leave the playlists during a script.
 const CHANNEL: &str =
     "channel cam target=1 part=1000000 skip=6 window=9 renditions=hi,lo first=0 start=0";
 
-/// Whether a script hands the record out before its end.
+/// When a script hands out the record.
 #[derive(Clone, Copy, PartialEq, Eq)]
 pub(crate) enum Chunks {
     /// Once, at the end.
@@ -23,7 +23,7 @@ pub(crate) enum Chunks {
     Many,
 }
 
-/// A recorder while a script goes on.
+/// A recorder during a script.
 struct Run {
     recorder: Recorder,
     /// The requests whose replies weren't collected.
@@ -31,20 +31,20 @@ struct Run {
     played: Played,
 }
 
-/// What came of a script.
+/// What a script has brought about.
 #[derive(Drop)]
 pub(crate) struct Played {
     /// The chunks that were handed out, one after another.
     chunks: Vec<u8>,
-    /// How many entries they have.
+    /// How many entries the chunks have.
     entries: u64,
-    /// What each call got, in a line or two of their own.
+    /// The answer to each call, in a line or two of its own.
     told: String,
-    /// The playlists among what calls got, one after another.
+    /// The playlists among the answers, one after another.
     pages: String,
 }
 
-/// Plays the script of this number.
+/// Plays the script of this `seed`.
 pub(crate) fn play(rt: &impl Abort, alloc: Global, seed: u64, chunks: Chunks) -> Played {
     let mut dice = Dice::new(seed);
     let mut run = Run::new(rt, alloc);
@@ -56,7 +56,7 @@ pub(crate) fn play(rt: &impl Abort, alloc: Global, seed: u64, chunks: Chunks) ->
 }
 
 impl Run {
-    /// Nothing has happened.
+    /// Returns a run to which nothing has happened.
     fn new(rt: &impl Abort, alloc: Global) -> Run {
         Run {
             recorder: recorder(rt, alloc, CHANNEL),
@@ -70,7 +70,7 @@ impl Run {
         }
     }
 
-    /// One random call. The later it comes, the later a clock may be.
+    /// Makes one random call. The later it comes, the later a reading of the clock can be.
     fn step(
         &mut self,
         rt: &impl Abort,
@@ -148,7 +148,7 @@ impl Run {
         }
     }
 
-    /// Gives a request up.
+    /// Closes a request.
     fn close(&mut self, rt: &impl Abort, dice: &mut Dice) {
         let Some(parked) = self.take(dice) else {
             return;
@@ -159,7 +159,7 @@ impl Run {
         }
     }
 
-    /// Hands the record out.
+    /// Hands out the record.
     fn rotate(&mut self, rt: &impl Abort) {
         let chunk = self.recorder.rotate().expect(rt, "memory");
         let chunks = &mut self.played.chunks;
@@ -167,7 +167,7 @@ impl Run {
         self.played.entries = self.played.entries.saturating_add(chunk.entries());
     }
 
-    /// One of the requests whose replies weren't collected.
+    /// Takes one of the requests whose replies weren't collected.
     fn take(&mut self, dice: &mut Dice) -> Option<Parked> {
         let count = self.kept.len();
         if count == 0 {
@@ -177,13 +177,13 @@ impl Run {
         Some(self.kept.swap_remove(place).into_parked())
     }
 
-    /// Writes down what a call got.
+    /// Appends the answer to a call.
     fn tell(&mut self, rt: &impl Abort, text: &str) {
         self.played.told.push_str(text).expect(rt, "memory");
         self.played.told.push('\n').expect(rt, "memory");
     }
 
-    /// Writes down a reply.
+    /// Appends the name of a reply, and its playlist to those of the script.
     fn tell_reply(&mut self, rt: &impl Abort, reply: &Reply) {
         self.tell(rt, reply.name());
         if let Reply::Text(page) = reply {
@@ -191,7 +191,7 @@ impl Run {
         }
     }
 
-    /// What came of it. Some requests are still open.
+    /// Ends the run, and returns what it has brought about. Some requests are still open.
     fn finish(self, rt: &impl Abort, alloc: Global) -> Played {
         let Run {
             recorder: _,
@@ -204,24 +204,24 @@ impl Run {
 }
 
 impl Played {
-    /// Whether a check finds the chunks right, with all their entries.
+    /// Returns whether a check finds the chunks right, with all their entries.
     pub(crate) fn is_right(&self, alloc: Global) -> bool {
         self.entries > 0 && check(alloc, &self.chunks) == Ok(self.entries)
     }
 
-    /// Whether the calls of another script got the same.
+    /// Returns whether the calls of another script got the same answers.
     pub(crate) fn is_told_as(&self, other: &Played) -> bool {
         self.told == other.told && self.pages == other.pages
     }
 
-    /// How many calls got an answer that begins so.
+    /// Returns how many calls got an answer that begins with `answer`.
     pub(crate) fn count(&self, answer: &str) -> usize {
         let lines = self.told.lines();
         lines.filter(|line| line.starts_with(answer)).count()
     }
 }
 
-/// The line of an item. A date range without START-DATE and a part of no duration are refused whatever came before.
+/// Returns the line of a random item. A date range without START-DATE and a part of no duration are refused whatever came before.
 fn item_line(alloc: Global, dice: &mut Dice) -> Result<String, AllocError> {
     let name = dice.pick(&["hi", "lo"]);
     let id = dice.pick(&["ad", "show"]);
@@ -235,14 +235,14 @@ fn item_line(alloc: Global, dice: &mut Dice) -> Result<String, AllocError> {
     }
 }
 
-/// The line of a part of this rendition.
+/// Returns the line of a random part of the rendition `name`.
 fn part_line(alloc: Global, dice: &mut Dice, name: &str) -> Result<String, AllocError> {
     let duration = dice.roll(13) * 50_000;
     let flags = dice.pick(&["-", "i", "f", "if", "if"]);
     format!(in alloc; "part {name} {duration} {flags}")
 }
 
-/// The target of a request. The channel has no rendition `mid`.
+/// Returns the target of a random request. The channel has no rendition `mid`.
 fn target(alloc: Global, dice: &mut Dice) -> Result<String, AllocError> {
     let name = dice.pick(&["hi", "hi", "lo", "lo", "mid"]);
     let skip = dice.pick(&["", "&_HLS_skip=YES", "&_HLS_skip=v2"]);

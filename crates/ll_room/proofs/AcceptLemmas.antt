@@ -11,7 +11,7 @@ use Rattle.ll_page.proofs.RenditionLemmas.{length-renditions, rendition-got}
 use Rattle.ll_window.specs.Compact.{compact}
 use Rattle.ll_window.specs.Refusal as window
 use Rattle.ll_window.specs.Segments.{ended, own}
-use Rattle.ll_window.specs.declared.fault.PushFault.{PushFault}
+use Rattle.ll_window.specs.declared.fault.WindowFault.{WindowFault}
 use Rattle.ll_verdict.specs.Accepted.{refusal}
 use Rattle.ll_rendition.specs.Refusal.{first_refusal, of_push, refusal_at, refusal_of, rendition_refusal}
 use Rattle.ll_verdict.specs.Events.{Event, Publish, items, time, taken}
@@ -25,7 +25,7 @@ use Rattle.ll_verdict.specs.declared.entry.Slot.{Slot}
 use Rattle.ll_rendition.specs.declared.fault.PublishFault.{PublishFault}
 use Rattle.ll_rendition.specs.declared.fault.PublishFault.TheVariants.{NoRendition}
 use Rattle.ll_verdict.specs.declared.wanted.Wanted.{Wanted}
-use Rattle.ll_written.specs.Pages.{PagesOf, page_in}
+use Rattle.ll_page_cache.specs.Pages.{PagesOf, page_in}
 use Rattle.ll_book.specs.Release.{Supply, bytes_for}
 use Rattle.ll_book.specs.Releases.{first_release, part_of, second_release}
 use Rattle.ll_rendition.proofs.ItemLemmas.{its_refusal}
@@ -40,7 +40,7 @@ use Rattle.ll_room.proofs.HintedLemmas.{Hinted, hinted, media-brought}
 use Rattle.ll_room.proofs.IdleLemmas.{idle}
 use Rattle.ll_room.proofs.StandLemmas.{all_stay, stands-by}
 
--- why an item is refused, told by what is kept
+-- why an item is refused, by what is kept
 
 past-got : (rs : List Rendition) (r : ℕ) → slice_get rs r ≡ None → nat_lt r (length rs) ≡ false
 past-got [] r e = grind (arith, nat_tests)
@@ -70,11 +70,11 @@ pub first_none : (f g : Option PublishFault) → first_refusal f g ≡ None → 
 first_none None g e = refl
 first_none (Some f) g e = e
 
-none_mapped : (f : Option PushFault) → option_map of_push f ≡ None → f ≡ None
+none_mapped : (f : Option WindowFault) → option_map of_push f ≡ None → f ≡ None
 none_mapped None e = refl
 none_mapped (Some f) e = absurd (true≢false (sym (ap is_none e)))
 
-goes_on : (b : Bool) (f : Option PushFault) → window.refusal_by b f ≡ None → b ≡ false
+goes_on : (b : Bool) (f : Option WindowFault) → window.refusal_by b f ≡ None → b ≡ false
 goes_on true f e = absurd (true≢false (sym (ap is_none e)))
 goes_on false f e = refl
 
@@ -130,7 +130,7 @@ part_is c xs i named =
     let got = some_kept (renditions c xs) (rendition_of i) (slice_get (renditions c xs) (rendition_of i)) refl within in
     part_got c xs i got.0 got.1
 
--- what the item brings is what its supply gives
+-- what the item makes available is what its supply gives
 its_gift : (c : Configuration) (xs : List Item) (i : Item) (s : Slot) → 1 ≤ c.window → rendition_of i < length c.renditions → Hinted c xs s
     → Given c xs i (supply_with c (renditions c xs) (renditions c (xs ++ i ∷ [])) (length xs + 1) i) s
 its_gift c xs i s low named hinted waiting here brought =

@@ -1,4 +1,4 @@
--- One more request of a room: what it is answered, and what the room stands for then.
+-- One more request of a room: its answer, and what the room stands for then.
 use Rattle.std.proofs.Common.{◌≡◌, ℕ, ◌+◌, ◌≤◌, ◌<◌, List, [], ◌∷◌, ◌++◌, Bool, true, false, ◌||◌, cond, nat_le, nat_lt, not, Option, option_map, is_some, Some, None, length, refl, ap, ap₂, ◌∙◌, sym, filter, map, append-nil, arith, subst, slice_index_or}
 use Rattle.std.specs.Prelude.{slice_get}
 use Rattle.std.proofs.lemmas.Option.{slice_get_read}
@@ -186,7 +186,7 @@ told-at h es r k b f stands got told =
     let same : k.window.settings ≡ h.settings = ap (λ (x : Compact). x.settings) w in
     told own_items (w ∙ ap (λ d. compact d own_items) (sym same)) ∙ ap (λ d. f d own_items) same
 
--- what a rendition tells is what the events tell
+-- a rendition says the same as the events
 pub told-there : (h : RoomValue) (es : List Event) (a : Wanted) (k : Rendition) (b : Bool) → Stands h es → slice_get h.renditions a.rendition ≡ Some k
     → ((its : List Item) → k.window ≡ compact k.window.settings its → b ≡ (verdict.holds k.window.settings its a.awaited || ended its))
     → b ≡ is_there h.settings (items h.settings es) a

@@ -1,4 +1,4 @@
--- What an item releases is just what is there with it and wasn't before. First for the items of one rendition, by what is kept of them;
+-- An item releases exactly the requests for what is there with it and wasn't before. First for the items of one rendition, by what is kept of them;
 -- then for a request; then for all open requests, none of which was due before.
 use Rattle.std.proofs.Common.{◌≡◌, ◌≢◌, ℕ, ◌+◌, ◌≤◌, ◌==◌, List, [], ◌∷◌, ◌++◌, Bool, true, false, ◌&&◌, ◌||◌, cond, nat_le, nat_lt, Option, Some, None, is_none, refl, ap, ap₂, ◌∙◌, sym, true≢false, map, length, arith}
 use Rattle.std.proofs.lemmas.Bool.Decides.{nat_tests}
@@ -33,12 +33,12 @@ use Rattle.ll_room.proofs.IdleLemmas.{Idle}
 
 -- one rendition
 
--- a finish brings the open segment, where there is one
+-- a finish makes the open segment available, if there is one
 abbrev pub finishes : List part.Part → Awaited → ℕ → Bool
 finishes [] awaited number = false
 finishes (p ∷ ps) awaited number = segment_comes awaited number
 
--- what an item brings, where this was kept before it
+-- what an item makes available, by what is kept before it
 abbrev pub brings : Compact → Item → Awaited → Bool
 brings k (item.Part p) awaited = part_comes awaited k.next_number (length k.open_parts) || (p.finish && segment_comes awaited k.next_number)
 brings k (item.Finish r) awaited = finishes k.open_parts awaited k.next_number
@@ -48,7 +48,7 @@ brings k (item.End r) awaited = true
 brings k (item.Range r id attributes) awaited = false
 brings k (item.Unrange r id) awaited = false
 
--- what is awaited is held, by what is kept
+-- what is awaited is there, by what is kept
 abbrev held_in : Compact → Awaited → Bool
 held_in k Nothing = true
 held_in k (Segment msn) = nat_lt k.settings.first k.next_number && nat_lt msn k.next_number
@@ -175,7 +175,7 @@ both_part : (f : Bool) (k : Compact) (r : ℕ) (w : Wanted)
 both_part true k r w = split_true (w.rendition == r) (part_comes w.awaited k.next_number (length k.open_parts)) (segment_comes w.awaited k.next_number)
 both_part false k r w = split_false (w.rendition == r) (part_comes w.awaited k.next_number (length k.open_parts)) (segment_comes w.awaited k.next_number)
 
--- the two releases of an item free what it brings
+-- the two releases of an item free what it makes available
 both : (k : Compact) (i : Item) (w : Wanted)
     → (frees_opt (first_release k i) w || frees_opt (second_release k i) w) ≡ ((w.rendition == rendition_of i) && brings k i w.awaited)
 both k (item.Part p) w = both_part p.finish k p.rendition w
@@ -220,7 +220,7 @@ undue true b v h = absurd (true≢false (sym (ap is_none h)))
 undue false true v h = absurd (true≢false (sym (ap is_none h)))
 undue false false v h = (refl, refl)
 
--- what an item brings to a request of its rendition is what it is given
+-- what an item makes available to a request of its rendition is what the request gets
 abbrev pub Gives : Configuration → List Item → Item → Supply → Wanted → Type 0
 Gives c items i supply w = w.rendition ≡ rendition_of i → brings (compact c (own (rendition_of i) items)) i w.awaited ≡ true
     → given (length (items ++ i ∷ [])) w (page_of c (items ++ i ∷ []) w) (media_of c (items ++ i ∷ []) w) ≡ given_in supply w
@@ -251,7 +251,7 @@ freed_by c items now i supply e None going p h =
         by_test true b e h = (grind (arith, nat_tests, e), h)
         by_test false b e h = absurd (true≢false (sym h))
 
--- an open request that waits is given what the item brings it
+-- an open request that waits gets what the item makes available to it
 abbrev pub Given : Configuration → List Item → Item → Supply → Slot → Type 0
 Given c items i supply s = s.settled ≡ None → Gives c items i supply s.entry.wanted
 

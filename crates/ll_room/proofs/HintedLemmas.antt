@@ -1,4 +1,4 @@
--- A request for media that waits, waits for the next part of its rendition or for one that can't come any more; and what an item brings it is that
+-- A waiting request for media waits for the next part of its rendition or for one that can't come any more; and what it gets from an item is that
 -- part's bytes, or none.
 use Rattle.std.proofs.Common.{◌≡◌, ◌≢◌, ℕ, ◌+◌, ◌≤◌, ◌==◌, List, [], ◌∷◌, ◌++◌, Bool, true, false, ◌&&◌, ◌||◌, cond, nat_le, nat_lt, Option, Some, None, is_none, filter, map, length, refl, ap, ap₂, sym, subst, ◌∙◌, true≢false, arith, option_map}
 use Rattle.std.proofs.lemmas.Bool.Decides.{nat_tests}
@@ -64,7 +64,7 @@ finish-goes (q ∷ ps) k Nothing h = absurd (true≢false (sym h))
 finish-goes (q ∷ ps) k (Segment msn) h = absurd (true≢false (sym h))
 finish-goes (q ∷ ps) k (Part m p) h = earlier m p k.next_number (length k.open_parts) h
 
--- an item that doesn't bring it leaves it to the next part
+-- an item that isn't what it waits for leaves it to the next part
 next-goes : (k : Compact) (i : Item) (a : Awaited) → comes_in k a ≡ true → brings k i a ≡ false → comes_in (with_item k i) a ≡ true
 next-goes k (item.Part p) a h none = absurd (true≢false (sym (ap (λ x. x || (p.finish && segment_comes a k.next_number)) h) ∙ none))
 next-goes k (item.Finish r) a h none = finish-goes k.open_parts k a h
@@ -74,7 +74,7 @@ next-goes k (item.Init r media) a h none = h
 next-goes k (item.Range r id attributes) a h none = h
 next-goes k (item.Unrange r id) a h none = h
 
--- where it isn't there, its rendition goes on
+-- if it isn't there, its rendition goes on
 goes-on : (a b : Bool) → (a || b) ≡ false → (a ≡ false) × (b ≡ false)
 goes-on true b h = absurd (true≢false h)
 goes-on false b h = (refl, h)
@@ -101,7 +101,7 @@ item-stays c items i w false e missing h gone =
     let other : rendition_of i ≢ w.rendition = λ f. (let same : (w.rendition == rendition_of i) ≡ true = grind (arith, nat_tests, f) in true≢false (sym same ∙ e)) in
     ap (λ xs. comes_next c xs w.awaited) (own-other w.rendition items i other) ∙ h
 
--- what the next part brings stays so, until it is there
+-- what the next part makes available stays so, until it is there
 abbrev Stays : Configuration → List Item → List Item → Type 0
 Stays c old new = (w : Wanted) → is_there c old w ≡ false → comes_next c (own w.rendition old) w.awaited ≡ true → is_there c new w ≡ false
     → comes_next c (own w.rendition new) w.awaited ≡ true
@@ -197,7 +197,7 @@ next-hinted c st e h =
 pub hinted : (c : Configuration) (es : List Event) → Each (Hinted c (items c es)) (state_of c es).slots
 hinted c es = along (λ es. AllHinted c (state_of c es)) tt (λ es e h. subst (AllHinted c) (sym (state-snoc c es e)) (next-hinted c (state_of c es) e h)) es
 
--- ---- what an item brings
+-- ---- what an item makes available
 
 file-is : (x : What) (m p : ℕ) → awaits x ≡ Part m p → x ≡ what.Part m p
 file-is what.Playlist m p e = cc

@@ -1,4 +1,4 @@
--- After an event no open request is left that would settle: those that could have settled with it, and a new one is not due yet.
+-- After an event no open request is left that would settle: those that could have settled with it, and a new one isn't due yet.
 use Rattle.std.proofs.Common.{◌≡◌, ℕ, ◌+◌, ◌*◌, ◌≤◌, List, [], ◌∷◌, Bool, true, false, ◌&&◌, ◌||◌, cond, nat_le, Option, Some, None, is_none, length, refl, ap, ap₂, sym, subst, filter, map, arith}
 use Rattle.std.proofs.lemmas.Bool.Decides.{nat_tests}
 use Rattle.ll_item.specs.Settings.{Configuration}

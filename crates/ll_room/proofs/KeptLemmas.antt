@@ -1,4 +1,4 @@
--- What a room keeps true of itself.
+-- Each step keeps the invariant of a room.
 use Rattle.std.proofs.Common.{◌≡◌, not, ◌||◌, ◌==◌, true≢false, ◌≤◌, ◌<◌, ℕ, ◌+◌, ◌^◌, List, [], ◌∷◌, Bool, true, false, cond, length, filter, map, refl, ap, ◌∙◌, sym, subst, suc, arith, ◌++◌, None, length-append}
 use Rattle.std.specs.List.{list_any}
 use Rattle.ll_verdict.specs.declared.entry.Slot.{Slot}
@@ -7,9 +7,9 @@ use Rattle.ll_verdict.specs.Waiting.{AreBelow, without, has_ticket, ticket_in}
 use Rattle.ll_page.specs.Page.{Moment}
 use Rattle.ll_room.specs.RoomValue.{RoomValue, less}
 use Rattle.ll_room.specs.Kept.{IsKept, with_answer}
-use Rattle.ll_written.specs.Stored.{AreFew}
-use Rattle.ll_written.specs.Written.{WrittenOf}
-use Rattle.ll_written.proofs.WrittenLemmas.{none-written}
+use Rattle.ll_page_cache.specs.Stored.{AreFew}
+use Rattle.ll_page_cache.specs.Written.{WrittenOf}
+use Rattle.ll_page_cache.proofs.WrittenLemmas.{none-written}
 use Rattle.std.proofs.lemmas.Bool.Decides.{nat_tests}
 use Rattle.ll_item.proofs.WithinLimits.{within}
 use Rattle.ll_item.specs.Settings.{Configuration, limit_broken}
@@ -196,6 +196,6 @@ leave-kept h w t slots k e there =
       counted = omega (arith, fewer, k.counted);
     }
 
--- where none leaves
+-- if none leaves
 pub same-kept : (h : RoomValue) (w : WrittenOf) (slots : List Slot) → IsKept h w → slots ≡ h.slots → IsKept (record h { slots = slots }) w
 same-kept h w slots k e = subst (λ ss. IsKept (record h { slots = ss }) w) (sym e) k

@@ -24,9 +24,9 @@ use Rattle.ll_store.specs.Media.{StoreValue}
 use Rattle.ll_verdict.specs.Full.{event_end}
 use Rattle.ll_room.specs.RoomValue.{RoomValue}
 use Rattle.ll_room.specs.Kept.{IsKept}
-use Rattle.ll_written.specs.Stored.{AreFew}
-use Rattle.ll_written.specs.Written.{AreWritten, WrittenOf}
-use Rattle.ll_written.proofs.WrittenLemmas.{none-written, one-written}
+use Rattle.ll_page_cache.specs.Stored.{AreFew}
+use Rattle.ll_page_cache.specs.Written.{AreWritten, WrittenOf}
+use Rattle.ll_page_cache.proofs.WrittenLemmas.{none-written, one-written}
 use Rattle.ll_room.specs.declared.publish.Coming.{Coming}
 
 -- the releases take none of these
@@ -155,7 +155,7 @@ both-released supply both ss new found more apart h k e =
 pub apart : (h : RoomValue) (i : Item) → AreApart (releases h i)
 apart h i = apart_at (slice_get h.renditions (rendition_of i)) i
 
--- what a room keeps true of itself after one more item
+-- the invariant of a room after one more item
 
 given_ticket : (supply : Supply) (b : Bool) (s : Slot) → (given_if supply b s).entry.ticket ≡ s.entry.ticket
 given_ticket supply true s = refl

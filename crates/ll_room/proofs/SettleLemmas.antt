@@ -119,7 +119,7 @@ pub fewer : (t : ℕ) (ss : List Slot) → map ticket_in (without t ss) ≡ less
 fewer t [] = refl
 fewer t (s ∷ ss) = fewer_by s (without t ss) (less t (map ticket_in ss)) (s.entry.ticket == t) (fewer t ss)
 
--- what comes of them
+-- what they get
 
 same_number : (a b : ℕ) → a ≡ b → (a == b) ≡ true
 same_number a b e = grind (arith, nat_tests, e)

@@ -1,4 +1,4 @@
--- Where a rendition stands is told by what is kept of it.
+-- What is kept of a rendition determines where it stands.
 use Rattle.std.proofs.Common.{◌≡◌, ℕ, ◌<◌, ◌≤◌, List, Some, ap, ap₂, sym, ◌∙◌, length, slice_get, arith}
 use Rattle.std.proofs.lemmas.Bool.Decides.{nat_tests}
 use Rattle.ll_page.proofs.RenditionLemmas.{length-renditions, rendition-got}

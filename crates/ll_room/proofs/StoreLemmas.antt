@@ -53,7 +53,7 @@ stored old new before after i a free goes place map brought is c items shown all
     (ap (λ ks. slice_get ks r) shown ∙ kept-there c items r in_channel.0)
     (ap (λ ks. slice_get ks r) (goes c items shown) ∙ kept-there c (items ++ i ∷ []) r in_channel.0 ∙ ap (λ xs. Some (kept c xs)) (own-same r items i refl))
 
--- what was made doesn't turn on the bytes that are kept
+-- what was made doesn't depend on the bytes that are kept
 pub coming-with : (h : RoomValue) (ss : List StoreValue) (first second : Option Release) (x : Coming) → IsComing (with_stores h ss) first second x → IsComing h first second x
 coming-with h ss first second x is = record { many = is.many; shown = is.shown; pages = is.pages; has_first = is.has_first; has_second = is.has_second }
 

@@ -1,4 +1,4 @@
--- Tickets that stand once each, whatever comes and leaves.
+-- Each ticket occurs once, whatever is added and removed.
 use Rattle.std.proofs.Common.{◌≡◌, ℕ, ◌==◌, ◌||◌, List, [], ◌∷◌, ◌++◌, Bool, true, false, not, cond, refl, ap, ap₂, ◌∙◌, sym, true≢false, arith}
 use Rattle.std.proofs.lemmas.Bool.Decides.{nat_tests}
 use Rattle.ll_room.specs.RoomValue.{AreDistinct, among, less}
@@ -10,7 +10,7 @@ absent_by : (t m : ℕ) (ms : List ℕ) (b : Bool) → (b || among t ms) ≡ fal
 absent_by t m ms true h ih = absurd (true≢false h)
 absent_by t m ms false h ih = ap (λ ns. m ∷ ns) (ih h)
 
--- where a number isn't there, nothing leaves
+-- if a number isn't there, nothing leaves
 pub absent : (t : ℕ) (ns : List ℕ) → among t ns ≡ false → less t ns ≡ ns
 absent t [] h = refl
 absent t (m ∷ ms) h = absent_by t m ms (m == t) h (absent t ms)

@@ -1,4 +1,4 @@
--- What the calls of a room answer.
+-- The results of the calls of a room.
 use Rattle.std.specs.Prelude.{ℕ, ◌+◌, ◌==◌, ◌&&◌, List, [], ◌∷◌, Bool, true, false, Option, Some, None, if◌then◌else◌}
 use Rattle.std.specs.List.{list_any}
 use Rattle.ll_directive.specs.Targets.{WantValue}
@@ -17,17 +17,17 @@ use Rattle.ll_room.specs.declared.asked.Closed.{Closed}
 use Rattle.ll_room.specs.declared.asked.Closed.TheVariants as given_up
 use Rattle.ll_room.specs.declared.stamped.Stamp.TheVariants as stamp
 
--- a request is answered at once, or held under the next number
+-- the result of a request: its reply at once, or that it is held under the next ticket
 abbrev pub asked : RoomValue → WantValue → Option Reply → Asked
 asked h want (Some reply) = Now (record { room = h.channel; stamp = stamp.Ask (h.asks + 1) want; value = reply })
 asked h want None = Held (record { channel = h.channel; ticket = h.asks + 1 })
 
--- the ticket of a request that is held
+-- the ticket of the request, if it is held
 abbrev pub new_tickets : Asked → List ℕ
 new_tickets (Now reply) = []
 new_tickets (Held parked) = parked.ticket ∷ []
 
--- these tickets without that of a request that is held
+-- the tickets `list` without that of the request, if it is held
 abbrev pub others : Asked → List ℕ → List ℕ
 others (Now reply) list = list
 others (Held parked) list = less parked.ticket list
@@ -37,20 +37,20 @@ collected_by p (Some settled) here = Got (record { room = p.channel; stamp = sta
 collected_by p None true = Still p
 collected_by p None false = Stranger p
 
--- the reply to the request of this number, handed out by its room
+-- the reply to request `ticket`, as its room hands it out
 abbrev pub collected_at : RoomValue → ℕ → Settled → StampedValue Reply
 collected_at h ticket settled = record { room = h.channel; stamp = stamp.Collect ticket; value = reply_of settled }
 
--- the reply that is given at once
+-- the reply at once, if there is one
 abbrev pub now_in : Asked → Option (StampedValue Reply)
 now_in (Now reply) = Some reply
 now_in (Held parked) = None
 
--- whether a request is open under this ticket
+-- whether request `ticket` is open
 abbrev pub is_open : RoomValue → ℕ → Bool
 is_open h ticket = list_any (has_ticket ticket) h.slots
 
--- what comes of a held request whose reply is asked for
+-- the result of asking for the reply to a held request
 abbrev pub collected : RoomValue → Ticket → Collected
 collected h p = if p.channel == h.channel then collected_by p (reply_at p.ticket h.slots) (is_open h p.ticket) else Stranger p
 
@@ -59,7 +59,7 @@ is_got (Got reply) = true
 is_got (Still p) = false
 is_got (Stranger p) = false
 
--- what comes of a held request that is given up
+-- the result of closing a held request
 abbrev pub closed : RoomValue → Ticket → Closed
 closed h p = if p.channel == h.channel && is_open h p.ticket then given_up.Done else given_up.Stranger p
 

@@ -1,4 +1,4 @@
--- What comes of a request, told apart from its making.
+-- What a request would get if it were made now, decided before it is made.
 use Rattle.std.specs.Prelude.{◌≡◌, ◌<◌, ⊤, ℕ, List, Option, Some, None, if◌then◌else◌, is_some, length, option_map, true}
 use Rattle.ll_directive.specs.Files.{is_playlist}
 use Rattle.ll_directive.specs.Targets.{WantValue}
@@ -18,15 +18,15 @@ use Rattle.ll_room.specs.declared.decision.Decision.TheVariants.{NotFound, There
 abbrev pub page_now : RoomValue → Wanted → Paged
 page_now h a = record { seen = seen_of (moment h) a.rendition; form = a.form }
 
--- the bytes as they are now of the media that is asked for, where it is there
+-- the bytes of the requested media as they are now, if it is there
 abbrev pub media_here : RoomValue → Wanted → Option (List ℕ)
 media_here h a = media_at h.renditions h.stores a.rendition a.what
 
--- the playlist or media as it is now, where it is there
+-- the requested playlist or media as it is now, if it is there
 abbrev pub reply_here : RoomValue → Wanted → Option Reply
 reply_here h a = if is_playlist a.what then Some (now.Text (page_now h a)) else option_map (λ bytes. now.Media (piece_of h.count a bytes)) (media_here h a)
 
--- the reply at once
+-- the reply at once, if there is one
 abbrev pub reply_in : RoomValue → Decision → Option Reply
 reply_in h NotFound = Some now.NotFound
 reply_in h (There a) = reply_here h a
@@ -34,7 +34,7 @@ reply_in h TooFar = Some now.TooFar
 reply_in h Busy = Some now.Busy
 reply_in h (Waits a) = None
 
--- a request that has what it is for, or waits, asks this of a rendition of the channel; where it waits, fewer wait than may
+-- a request that gets what it is for, or waits, asks for `a`, of a rendition of the channel; if it waits, fewer wait than the limit
 abbrev pub IsFor : RoomValue → WantValue → Decision → Type 0
 IsFor h want NotFound = ⊤
 IsFor h want (There a) = (wanted_of h.settings want ≡ Some a) × (a.rendition < length h.renditions) × (is_some (reply_here h a) ≡ true)
@@ -42,11 +42,11 @@ IsFor h want TooFar = ⊤
 IsFor h want Busy = ⊤
 IsFor h want (Waits a) = (wanted_of h.settings want ≡ Some a) × (waiting_in h.slots < waiting_limit)
 
--- the reply at once is the one that the definitions say, whatever events the room stands for
+-- the reply at once is that of the definitions, whatever events the room stands for
 pub record IsDecided (h : RoomValue) (want : WantValue) (d : Decision) : Type 0 where
   pub asks : IsFor h want d
   pub reply : (events : List Event) → Stands h events → at_once h.settings (held h.settings events) events want ≡ reply_in h d
 
--- it was decided of some request
+-- `d` was decided for some request
 abbrev pub IsDecidedOfOne : RoomValue → Decision → Type 0
 IsDecidedOfOne h d = (want : WantValue) × IsDecided h want d

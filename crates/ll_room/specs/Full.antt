@@ -1,4 +1,4 @@
--- The first rule that refuses an item, by what is kept.
+-- The first rule that refuses an item, by what a room keeps.
 use Rattle.std.specs.Prelude.{Option, slice_get}
 use Rattle.ll_item.specs.Items.{rendition_of}
 use Rattle.ll_item.specs.declared.item.Item.{Item}

@@ -1,10 +1,10 @@
--- For private contracts: what a room keeps true of itself.
+-- For private contracts: the invariant of a room.
 use Rattle.std.specs.Prelude.{◌≡◌, ◌≤◌, ◌+◌, ◌*◌, ◌^◌, ◌++◌, [], ◌∷◌, None, length}
 use Rattle.ll_verdict.specs.Waiting.{AreBelow}
 use Rattle.ll_verdict.specs.declared.wanted.Wanted.{Wanted}
 use Rattle.ll_room.specs.RoomValue.{RoomValue, moment}
-use Rattle.ll_written.specs.Stored.{AreFew}
-use Rattle.ll_written.specs.Written.{AreWritten, WrittenOf}
+use Rattle.ll_page_cache.specs.Stored.{AreFew}
+use Rattle.ll_page_cache.specs.Written.{AreWritten, WrittenOf}
 
 pub record IsKept (h : RoomValue) (w : WrittenOf) : Type 0 where
   pub current : AreWritten (moment h) w.pages

@@ -1,4 +1,4 @@
--- What is kept of a channel in place of its events.
+-- The value of a room: what is kept of a channel in place of its events.
 use Rattle.std.specs.Prelude.{◌≡◌, ℕ, List, [], ◌∷◌, Bool, false, filter, length, map, not, ◌==◌}
 use Rattle.std.specs.List.{list_any}
 use Rattle.ll_item.specs.Settings.{Configuration}
@@ -31,7 +31,7 @@ pub record RoomValue : Type 0 where
   -- how many events there were
   pub events : ℕ
 
--- the room of this number for this state
+-- the room of number `channel` for the state `s`
 abbrev pub room_value : ℕ → Configuration → State → RoomValue
 room_value channel c s = record {
   channel = channel;
@@ -45,15 +45,15 @@ room_value channel c s = record {
   events = s.events;
 }
 
--- the channel at this moment
+-- the channel as it is now
 abbrev pub moment : RoomValue → Moment
 moment h = record { settings = h.settings; renditions = h.renditions; count = h.count }
 
--- a room stands for these events of its channel
+-- a room stands for `events`: it is what is kept of them
 abbrev pub Stands : RoomValue → List Event → Type 0
 Stands h events = h ≡ room_value h.channel h.settings (state_of h.settings events)
 
--- a room keeps its number and its settings
+-- the room keeps its number and its settings
 pub record IsSame (old new : RoomValue) : Type 0 where
   pub channel : new.channel ≡ old.channel
   pub settings : new.settings ≡ old.settings
@@ -62,15 +62,15 @@ pub record IsSame (old new : RoomValue) : Type 0 where
 abbrev pub tickets : RoomValue → List ℕ
 tickets h = map ticket_in h.slots
 
--- without this ticket
+-- `list` without `ticket`
 abbrev pub less : ℕ → List ℕ → List ℕ
 less ticket list = filter (λ n. not (n == ticket)) list
 
--- whether this ticket is among these
+-- whether `ticket` is in `list`
 abbrev pub among : ℕ → List ℕ → Bool
 among ticket list = list_any (λ n. n == ticket) list
 
--- no number stands twice
+-- no number occurs twice
 abbrev pub AreDistinct : List ℕ → Type 0
 AreDistinct [] = Unit
 AreDistinct (n ∷ more) = (among n more ≡ false) × AreDistinct more

@@ -1,4 +1,4 @@
--- A held request.
+-- The value of a held request.
 use Rattle.std.specs.Prelude.{ℕ}
 
 pub record Ticket : Type 0 where

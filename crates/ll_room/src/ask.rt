@@ -1,4 +1,4 @@
-//! Requests: a reply at once, or a request that is held (Blocking Playlist Reload, section 6.2.5.2).
+//! Requests: each gets a reply at once, or is held (blocking playlist reload, section 6.2.5.2).
 ghost use Rattle.std.specs.Prelude.{◌≡◌, ◌+◌, ◌<◌, ◌≤◌, ◌++◌, ◌∷◌, [], List, IfOk, IsErrOf, MatchOption, None, OnOk, OnErr, Some, false, is_some, length, option_map, true};
 ghost use Rattle.ll_directive.specs.Files.{is_playlist};
 ghost use Rattle.ll_page.specs.Page.{update_in};
@@ -25,22 +25,24 @@ use ll_directive::Want;
 use ll_item::{SkipKind, What};
 use ll_page::Page;
 use ll_store::{Found, find_at};
-use ll_verdict::{AskFault, Entry, Piece, Reply, Wanted, is_far, is_hinted, is_there};
+use ll_verdict::{AskFault, Entry, MediaReply, Reply, Wanted, is_far, is_hinted, is_there};
 use std::alloc::AllocError;
 
-/// How long a request waits, for each second of the target duration: three target durations, in milliseconds.
+/// The milliseconds that a request waits for each second of the target duration: three target durations.
 const WAIT: u64 = 3_000;
 
 impl Room {
-    /// Makes a request. Its reply comes at once, or it is held: the first of these that applies.
+    /// Makes the request `want`, which gets its reply at once or is held, by the first of these that applies:
     ///
     /// 1. The channel has no rendition of that name: NotFound.
-    /// 2. It is for a playlist and awaits nothing, or what it awaits is there, or its rendition has ended: the playlist or delta update as it is
-    ///    now. It is for media that is there: its bytes.
-    /// 3. It is for a playlist, and what it awaits is too far ahead: TooFar. It is for media other than the next part, which the Preload Hint names:
-    ///    NotFound.
-    /// 4. As many requests of the channel wait as may wait: Busy.
+    /// 2. It is for a playlist and awaits nothing, what it awaits is there, or its rendition has ended: the playlist or delta update as it is now. Or
+    ///    it is for media that is there: its bytes.
+    /// 3. It is for a playlist, and what it awaits is too far ahead: TooFar. Or it is for media other than the next part, which the Preload Hint
+    ///    names: NotFound.
+    /// 4. 65,536 requests of the channel wait: Busy.
     /// 5. It is held.
+    ///
+    /// Fails with `RecordFull` if the channel has taken 2^60 events, and with `Memory`. If it fails, nothing changes.
     pub fn ask(&mut self, want: Want) -> Result<Asked, AskFault>
         ensures answer { (events : List Event) → Stands self.old events
             → IfOk result (λ a. a ≡ asked self.old want (at_once self.old.settings (held self.old.settings events) events want)) }
@@ -60,10 +62,11 @@ impl Room {
         Ok(self.ask_decided(want, decision)?)
     }
 
-    /// What comes of a request, were it made now. It takes no memory.
+    /// Returns what the request `want` would get if it were made now. It takes no memory.
     pub fn decide(&self, want: &Want) -> Decision
         ensures { IsDecided self.now want.now result }
     {
+        // Serves the proof alone.
         let _ = &self.shown;
         let Some(wanted) = self.wanted(want) else {
             return Decision::NotFound;
@@ -74,14 +77,14 @@ impl Room {
         }
     }
 
-    /// What comes of a request for a playlist, which asks this.
+    /// Decides a request for a playlist.
     fn decide_playlist(&self, _want: &Want, wanted: Wanted) -> Decision
         requires asks { wanted_of self.now.settings _want.now ≡ Some wanted }
         requires within { wanted.rendition < length self.now.renditions }
         requires playlist { is_playlist wanted.what ≡ true }
         ensures { IsDecided self.now _want.now result }
     {
-        // (so that it is known that there are as many renditions as names)
+        // Serves the proof alone: there are as many renditions as names.
         let _ = &self.shown;
         if self.is_there(&wanted) {
             return Decision::There(wanted);
@@ -95,14 +98,14 @@ impl Room {
         Decision::Waits(wanted)
     }
 
-    /// What comes of a request for media, which asks this.
+    /// Decides a request for media.
     fn decide_media(&self, _want: &Want, wanted: Wanted) -> Decision
         requires asks { wanted_of self.now.settings _want.now ≡ Some wanted }
         requires within { wanted.rendition < length self.now.renditions }
         requires media { is_playlist wanted.what ≡ false }
         ensures { IsDecided self.now _want.now result }
     {
-        // (so that it is known that there are as many renditions as names)
+        // Serves the proof alone: there are as many renditions as names.
         let _ = &self.shown;
         if self.has_media(&wanted) {
             return Decision::There(wanted);
@@ -116,7 +119,7 @@ impl Room {
         Decision::Waits(wanted)
     }
 
-    /// Makes a request of which this was decided, as [`Room::decide`] does. If no memory is found, nothing changes.
+    /// Makes the request `want`, for which [`Room::decide`] returned `decision`. If it fails, nothing changes.
     pub fn ask_decided(&mut self, want: Want, decision: Decision) -> Result<Asked, AllocError>
         requires few { self.old.events < event_end }
         requires decided { IsDecided self.old want decision }
@@ -128,7 +131,7 @@ impl Room {
         ensures same { IsSame self.old self.new }
         ensures unchanged { OnErr result (self.new ≡ self.old) }
     {
-        // (so that it is known that a request waits for some time)
+        // Serves the proof alone: a request waits for some time.
         let _ = &self.shown;
         match decision {
             Decision::NotFound => Ok(self.answer(want, Reply::NotFound)),
@@ -142,7 +145,7 @@ impl Room {
         }
     }
 
-    /// Makes a request of which this was decided, and gives no reply: no playlist is written. If no memory is found, nothing changes.
+    /// Makes a request that was decided as `decision`, without its reply: no playlist is written. If it fails, nothing changes.
     pub(crate) fn pass(&mut self, decision: Decision) -> Result<(), AllocError>
         requires few { self.old.events < event_end }
         requires decided { IsDecidedOfOne self.old decision }
@@ -151,7 +154,7 @@ impl Room {
         ensures same { IsSame self.old self.new }
         ensures unchanged { OnErr result (self.new ≡ self.old) }
     {
-        // (so that it is known that a request waits for some time)
+        // Serves the proof alone: a request waits for some time.
         let _ = &self.shown;
         if let Decision::Waits(wanted) = decision {
             self.hold(wanted)?.spend();
@@ -161,7 +164,7 @@ impl Room {
         Ok(())
     }
 
-    /// What a request asks of a rendition, where the channel has one of that name.
+    /// Returns what `want` asks of its rendition, or `None` if the channel has none of that name.
     fn wanted(&self, want: &Want) -> Option<Wanted>
         ensures { result ≡ wanted_of self.now.settings want.now }
     {
@@ -174,7 +177,7 @@ impl Room {
         })
     }
 
-    /// Whether what a request awaits is there, or its rendition has ended.
+    /// Returns whether what a request awaits is there, or its rendition has ended.
     fn is_there(&self, wanted: &Wanted) -> bool
         requires { wanted.now.rendition < length self.now.renditions }
         ensures { (events : List Event) → Stands self.now events
@@ -186,7 +189,7 @@ impl Room {
         )
     }
 
-    /// Whether what a request awaits is too far ahead to be waited for.
+    /// Returns whether what a request awaits is too far ahead to be waited for.
     fn is_far(&self, wanted: &Wanted) -> bool
         requires { wanted.now.rendition < length self.now.renditions }
         ensures { (events : List Event) → Stands self.now events
@@ -198,7 +201,7 @@ impl Room {
         )
     }
 
-    /// Whether what a request awaits is the next part of its rendition.
+    /// Returns whether what a request awaits is the next part of its rendition.
     fn is_hinted(&self, wanted: &Wanted) -> bool
         requires { wanted.now.rendition < length self.now.renditions }
         ensures { (events : List Event) → Stands self.now events
@@ -210,7 +213,7 @@ impl Room {
         )
     }
 
-    /// The media that is asked for, where it is there.
+    /// Returns the requested media, or `None` if it isn't there.
     fn media(&self, wanted: &Wanted) -> Option<Found<'_>>
         ensures { MatchOption result (media_here self.now wanted.now ≡ None) (λ found. media_here self.now wanted.now ≡ Some found) }
     {
@@ -222,14 +225,14 @@ impl Room {
         )
     }
 
-    /// Whether the media that is asked for is there.
+    /// Returns whether the requested media is there.
     fn has_media(&self, wanted: &Wanted) -> bool
         ensures { result ≡ is_some (media_here self.now wanted.now) }
     {
         self.media(wanted).is_some()
     }
 
-    /// How many bytes the media has that is asked for, where it is there.
+    /// Returns how many bytes the requested media has, or `None` if it isn't there.
     pub(crate) fn media_length(&self, wanted: &Wanted) -> Option<u64>
         ensures { result ≡ option_map length (media_here self.now wanted.now) }
     {
@@ -237,7 +240,7 @@ impl Room {
         Some(found.len())
     }
 
-    /// The playlist, the delta update or the media as it is now.
+    /// Returns the requested playlist, delta update or media as it is now.
     fn reply_here(&mut self, wanted: &Wanted) -> Result<Reply, AllocError>
         requires within { wanted.now.rendition < length self.old.renditions }
         requires here { is_some (reply_here self.old wanted.now) ≡ true }
@@ -250,16 +253,17 @@ impl Room {
         }
     }
 
-    /// The media as it is now, shared.
-    fn piece(&self, wanted: &Wanted) -> Result<Piece, AllocError>
+    /// Returns the requested media as it is now, shared.
+    fn piece(&self, wanted: &Wanted) -> Result<MediaReply, AllocError>
         requires { is_some (media_here self.now wanted.now) ≡ true }
         ensures { IfOk result (λ piece. option_map (verdict.piece_of self.now.count wanted.now) (media_here self.now wanted.now) ≡ Some piece) }
     {
+        // Serves the proof alone.
         let _ = &self.shown;
         let Some(found) = self.media(wanted) else {
             unreachable!();
         };
-        Ok(Piece {
+        Ok(MediaReply {
             bytes: found.share(self.alloc)?,
             number: self.shown.count(),
             rendition: wanted.rendition,
@@ -267,7 +271,7 @@ impl Room {
         })
     }
 
-    /// Which delta update the playlist that is asked for is now; none where it is a full one.
+    /// Returns which delta update the requested playlist is now, or `None` if it is a full one.
     pub(crate) fn update(&self, wanted: &Wanted) -> Option<SkipKind>
         requires { wanted.now.rendition < length self.now.renditions }
         ensures { result ≡ update_in (page_now self.now wanted.now) }
@@ -275,7 +279,7 @@ impl Room {
         self.shown.view(wanted.rendition)?.update(wanted.form)
     }
 
-    /// The playlist or delta update as it is now. It is kept until the next item, so that whoever asks for it until then shares it.
+    /// Returns the playlist or delta update as it is now. It is kept until the next item, and shared by all who ask for it until then.
     fn page(&mut self, wanted: &Wanted) -> Result<Page, AllocError>
         requires { wanted.now.rendition < length self.old.renditions }
         ensures page { IfOk result (λ p. p ≡ page_now self.old wanted.now) }
@@ -285,7 +289,7 @@ impl Room {
         self.written.page(self.alloc, &self.shown, rendition, form)
     }
 
-    /// Counts a request that is answered at once.
+    /// Counts a request that is answered at once, and returns its answer.
     fn answer(&mut self, want: Want, reply: Reply) -> Asked
         requires { self.old.events < event_end }
         ensures answer { result ≡ asked self.old want (Some reply) }
@@ -304,7 +308,7 @@ impl Room {
         self.events += 1;
     }
 
-    /// Holds a request, where fewer wait than may, and counts it.
+    /// Holds a request and counts it.
     fn hold(&mut self, wanted: Wanted) -> Result<Parked, AllocError>
         requires few { self.old.events < event_end }
         requires free { waiting_in self.old.slots < waiting_limit }

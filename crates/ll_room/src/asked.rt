@@ -1,29 +1,30 @@
+//! The results of the calls of a room for requests.
 use crate::parked::Parked;
 use crate::stamped::Stamped;
 use ll_verdict::Reply;
 
-/// What a request gets when it is made.
+/// The result of making a request.
 pub enum Asked {
-    /// Its reply.
+    /// The request's reply.
     Now(Stamped<Reply>),
-    /// It is held: its reply comes with a later event.
+    /// The request is held: its reply comes with a later event.
     Held(Parked),
 }
 
-/// What a held request gets when its reply is asked for.
+/// The result of asking for the reply to a held request.
 pub enum Collected {
-    /// Its reply.
+    /// The request's reply.
     Got(Stamped<Reply>),
-    /// It is still held: nothing has happened.
+    /// The request is still held: nothing has happened.
     Still(Parked),
-    /// It isn't held in this room: nothing has happened.
+    /// The request isn't held in this room: nothing has happened.
     Stranger(Parked),
 }
 
-/// What becomes of a held request that is given up.
+/// The result of closing a held request.
 pub enum Closed {
-    /// It gets no reply.
+    /// The request gets no reply.
     Done,
-    /// It isn't held in this room: nothing has happened.
+    /// The request isn't held in this room: nothing has happened.
     Stranger(Parked),
 }

@@ -1,3 +1,4 @@
+//! What a request would get if it were made now.
 ghost use Rattle.std.specs.Prelude.{◌≡◌, ◌<◌, length, option_map};
 ghost use Rattle.ll_verdict.specs.Outcome.{outcome_of};
 ghost use Rattle.ll_room.specs.Decided.{IsDecidedOfOne, reply_here, reply_in};
@@ -6,23 +7,23 @@ use crate::room::Room;
 use ll_item::What;
 use ll_verdict::{Outcome, Wanted};
 
-/// What comes of a request when it is made: the first of these that applies. It tells all of its reply but the playlist's text or the bytes.
+/// What a request gets: the first of these that applies. It determines the reply, but for a playlist's text and the bytes of media.
 #[derive(Clone, Copy)]
 pub enum Decision {
-    /// The channel has no rendition of that name, or no such media, and it isn't the next part.
+    /// The channel has no rendition of that name, or the request is for media that isn't there and isn't the next part.
     NotFound,
-    /// It has this playlist, delta update or media.
+    /// The requested playlist, delta update or media is there.
     There(Wanted),
-    /// What it awaits is too far ahead.
+    /// What the request awaits is too far ahead.
     TooFar,
-    /// As many requests of the channel wait as may wait.
+    /// 65,536 requests of the channel wait.
     Busy,
-    /// It is held.
+    /// The request is held.
     Waits(Wanted),
 }
 
 impl Decision {
-    /// What the reply at once comes to, of a request of which this was decided in this room; none where the request is held.
+    /// Returns the outcome of the reply at once, or `None` if the request is held. `room` is the one that decided.
     pub fn outcome(&self, room: &Room) -> Option<Outcome>
         requires { IsDecidedOfOne room.now self.now }
         ensures { result ≡ option_map outcome_of (reply_in room.now self.now) }
@@ -37,7 +38,7 @@ impl Decision {
     }
 }
 
-/// What the reply comes to with this playlist, delta update or media.
+/// Returns the outcome of a reply with the requested playlist, delta update or media.
 fn outcome_here(room: &Room, wanted: &Wanted) -> Option<Outcome>
     requires { wanted.now.rendition < length room.now.renditions }
     ensures { result ≡ option_map outcome_of (reply_here room.now wanted.now) }

@@ -1,4 +1,4 @@
-//! Facts of the definitions, proved; none of these does anything.
+//! Laws: each is proved from the definitions, and does nothing.
 ghost use Rattle.std.specs.Prelude.{◌≡◌, false, true};
 ghost use Rattle.ll_verdict.specs.Full.{is_full};
 

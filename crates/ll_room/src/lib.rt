@@ -1,5 +1,5 @@
-//! The room of one channel: it decides one event at a time. Whatever list of events led to a room, each further event gets what the
-//! definitions over the list of all events say. Sections are those of draft-pantos-hls-rfc8216bis.
+//! The room of one channel, which decides one event at a time. Whatever events led to a room, each further event gets the answer that the definitions
+//! over the list of all events give. Sections are those of draft-pantos-hls-rfc8216bis.
 #![tactic(auto)]
 
 mod ask;
@@ -16,9 +16,8 @@ mod stamped;
 pub use asked::{Asked, Closed, Collected};
 pub use decision::Decision;
 pub use laws::event_limit_law;
-pub use ll_verdict::AskFault;
+pub use ll_verdict::{AskFault, LAST_TIME};
 pub use parked::{Parked, Stored};
 pub use replayer::Replayer;
 pub use room::Room;
-pub use settle::LAST_TIME;
 pub use stamped::{Stamp, Stamped};

@@ -1,11 +1,12 @@
+//! The values that stand for held requests.
 ghost use Rattle.std.specs.Prelude.{◌≡◌, IfErr, OnOk, false, true};
 ghost use Rattle.ll_room.specs.Answers.{is_open};
 
 use crate::room::Room;
 use std::marker::Model;
 
-/// The one value that stands for an open request of a room: who holds it is owed the reply. It can't be made twice, nor let go:
-/// it is spent where its reply is collected, the request is closed, or it is given back to a room where it is no longer open.
+/// The one value that stands for an open request of a room: who holds it is owed the reply. It can't be copied or dropped. It is spent when its reply
+/// is collected, when its request is closed, or when it is returned to its room and its request is no longer open there.
 pub struct Parked {
     channel: u64,
     ticket: u64,
@@ -19,7 +20,7 @@ impl Model for Parked {
     ghost view = { λ p. record { channel = p.channel; ticket = p.ticket } };
 }
 
-/// None may be let go, since tickets count from 1: a leak is a failed proof.
+/// Can't be called, since tickets count from 1: a dropped value is a failed proof.
 impl Drop for Parked {
     fn drop(self)
         requires { self.ticket ≡ 0 }
@@ -32,21 +33,21 @@ impl Drop for Parked {
 }
 
 impl Parked {
-    /// The value for this request of this room.
+    /// Returns the value for request `ticket` of room `channel`.
     pub(crate) fn new(channel: u64, ticket: u64) -> Parked
         ensures { result ≡ record { channel = channel; ticket = ticket } }
     {
         Parked { channel, ticket }
     }
 
-    /// The number of its room.
+    /// Returns the number of its room.
     pub fn channel(&self) -> u64
         ensures { result ≡ self.now.channel }
     {
         self.channel
     }
 
-    /// The number of the request in its room, from 1.
+    /// Returns the number of the request in its room, from 1.
     pub fn ticket(&self) -> u64
         ensures { result ≡ self.now.ticket }
     {
@@ -61,7 +62,7 @@ impl Parked {
         } = self;
     }
 
-    /// The same value in a form that can lie under a lock.
+    /// Converts it to a form that can lie under a lock.
     pub fn store(self) -> Stored
         ensures { result ≡ self }
     {
@@ -72,7 +73,7 @@ impl Parked {
         }
     }
 
-    /// Gives it back to its room, where its request is no longer open; any other is handed back.
+    /// Gives it back to `room`. Fails with the value itself if `room` isn't its room, or if its request is still open there.
     pub fn return_to(self, room: &Room) -> Result<(), Parked>
         ensures spent { OnOk result ((self.channel ≡ room.now.channel) × (is_open room.now self.ticket ≡ false)) }
         ensures handed_back { IfErr result (λ p. (p ≡ self) × (p.channel ≡ room.now.channel → is_open room.now p.ticket ≡ true)) }
@@ -85,8 +86,8 @@ impl Parked {
     }
 }
 
-/// A [`Parked`] in a form that can lie under a lock: a guard takes no value whose drop has a premise. It has no drop at all, so that a
-/// leak is refused by the compiler, and it is taken out again before it is used.
+/// A [`Parked`] in a form that can lie under a lock: a guard takes no value whose drop has a precondition. It has no drop at all, so that the
+/// compiler refuses a leak, and becomes a [`Parked`] again before it is used.
 pub struct Stored {
     room: u64,
     number: u64,
@@ -101,14 +102,14 @@ impl Model for Stored {
 }
 
 impl Stored {
-    /// The number of the request in its room, from 1.
+    /// Returns the number of the request in its room, from 1.
     pub fn ticket(&self) -> u64
         ensures { result ≡ self.now.ticket }
     {
         self.number
     }
 
-    /// The value that collects its reply or closes it.
+    /// Converts it back to the value with which its request is collected or closed.
     pub fn into_parked(self) -> Parked
         ensures { result ≡ self }
     {

@@ -1,4 +1,4 @@
-//! A publisher's items: a test that tells the first rule that refuses one, and a step that memory alone can refuse.
+//! Items of a publisher: `test` finds the first rule that refuses one, and `accept` fails only when out of memory.
 ghost use Rattle.std.specs.Prelude.{◌≡◌, ◌≢◌, ◌+◌, ◌<◌, ◌++◌, ◌∷◌, [], List, IfOk, IfErr, IsErrOf, OnOk, OnErr, MatchResult, None, Some, false, length};
 ghost use Rattle.ll_item.specs.Items.{rendition_of};
 ghost use Rattle.ll_item.specs.declared.item.Item.{Item};
@@ -21,15 +21,14 @@ use ll_book::{
 };
 use ll_item::Item;
 use ll_page::Shown;
+use ll_page_cache::Pages;
 use ll_store::{arrive, expect};
 use ll_verdict::PublishFault;
-use ll_written::Pages;
 use std::alloc::AllocError;
 
 impl Room {
-    /// Accepts an item and answers how many were accepted with it, or answers the first rule that refuses it. The requests for which
-    /// it brings what they await are settled with it: all texts are written and all memory is found before anything changes, and each
-    /// form of the playlist is written once.
+    /// Accepts `item` and settles the requests that it releases. Returns how many items the channel has then accepted, or the first rule that refuses
+    /// `item`, or `Memory`. All texts are written and all memory is taken before anything changes, and each form of the playlist is written once.
     pub fn publish(&mut self, item: Item) -> Result<Stamped<u64>, PublishFault>
         ensures accepted { (events : List Event) → Stands self.old events → OnOk result
             ((refusal_after self.old.settings events item ≡ None) × Stands self.new (events ++ Publish item ∷ [])) }
@@ -65,7 +64,7 @@ impl Room {
         Ok(())
     }
 
-    /// Accepts an item that nothing refuses, as [`Room::test`] tells. If no memory is found, nothing changes.
+    /// Accepts an `item` that [`Room::test`] let through, and returns how many items the channel has then accepted. If it fails, nothing changes.
     pub fn accept(&mut self, item: Item) -> Result<Stamped<u64>, AllocError>
         requires { refusal_by self.old item ≡ None }
         ensures accepted { (events : List Event) → Stands self.old events → OnOk result (Stands self.new (events ++ Publish item ∷ [])) }
@@ -80,7 +79,7 @@ impl Room {
         Ok(Stamped::new(self.channel, stamp, self.shown.count()))
     }
 
-    /// Takes an item in, with these releases.
+    /// Accepts `item`, whose releases are `first` and `second`.
     fn take_in(
         &mut self,
         item: Item,
@@ -101,7 +100,7 @@ impl Room {
         }
     }
 
-    /// The releases that an item brings.
+    /// Returns the two releases of `item`.
     fn releases(&self, item: &Item) -> (Option<Release>, Option<Release>)
         ensures { result ≡ spec.releases self.now item.now }
     {
@@ -114,8 +113,8 @@ impl Room {
         }
     }
 
-    /// Accepts an item that releases no request. The pages of before it are dropped first, so that nothing is copied unless a reply that is on its
-    /// way still holds one.
+    /// Accepts an item that releases no request. The pages from before it are dropped first, so that nothing is copied unless a reply in flight still
+    /// holds one.
     fn accept_silently(&mut self, item: Item) -> Result<(), AllocError>
         requires allowed { refusal_by self.old item ≡ None }
         requires first { takes_any (spec.releases self.old item).0 self.old.slots ≡ false }
@@ -134,7 +133,7 @@ impl Room {
         Ok(())
     }
 
-    /// Accepts an item and makes these releases.
+    /// Accepts `item` and carries out its releases, `first` and `second`.
     fn accept_and_release(
         &mut self,
         item: Item,
@@ -155,7 +154,7 @@ impl Room {
         Ok(())
     }
 
-    /// Makes all that an item and these releases need, and changes nothing.
+    /// Makes all that `item` and its releases need, and changes nothing.
     fn prepare(
         &self,
         item: Item,
@@ -175,7 +174,7 @@ impl Room {
         self.find_holders(rendition, shown, part, first, second)
     }
 
-    /// The part that an item is, with another holder of its bytes.
+    /// Returns the part that `item` is, with another handle of its bytes, or `None` if it is no part.
     fn part_of(&self, item: &Item) -> Result<Option<NextPart>, AllocError>
         ensures { IfOk result (λ part. part ≡ spec.part_in self.now item.now) }
     {
@@ -185,7 +184,7 @@ impl Room {
         }
     }
 
-    /// Makes the pages and the holders that these releases need, for an item of this rendition with which the channel is as shown.
+    /// Makes the pages and replies for the releases of an item of `rendition`; `shown` is the channel with that item.
     fn find_holders(
         &self,
         rendition: usize,
@@ -214,7 +213,7 @@ impl Room {
         })
     }
 
-    /// The pages of this rendition of the channel as shown, of which none is written.
+    /// Returns the pages of `rendition` in the channel `shown`, none of them written yet.
     fn pages_of(&self, rendition: usize, shown: &Shown) -> Result<Pages, AllocError>
         requires { rendition < length shown.now.renditions }
         ensures { IfOk result (λ p. p ≡ record { moment = shown.now; rendition = rendition }) }
@@ -223,7 +222,7 @@ impl Room {
         Ok(Pages::new(self.alloc, shown.again()?, rendition, before)?.unwrap())
     }
 
-    /// The holders of two releases, where there are these.
+    /// Makes the replies of two releases, each `None` if there is no such release.
     fn holders_for_both(
         &self,
         first: Option<Release>,
@@ -240,7 +239,7 @@ impl Room {
         Ok((first, second))
     }
 
-    /// Takes over what was made, and makes these releases. It takes no memory.
+    /// Puts what was prepared in place, and carries out the two releases. It takes no memory.
     fn change(&mut self, coming: Coming, first: Option<Release>, second: Option<Release>)
         requires few { self.old.events < event_end }
         requires apart { AreApart (first, second) }
@@ -266,8 +265,8 @@ struct Coming {
     pages: Vec<Pages>,
     /// The part that the item is, if it is one.
     part: Option<NextPart>,
-    /// The holders of the first release.
+    /// The replies of the first release.
     first: Option<Holders>,
-    /// The holders of the second release.
+    /// The replies of the second release.
     second: Option<Holders>,
 }

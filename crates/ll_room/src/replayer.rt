@@ -22,8 +22,7 @@ use ll_verdict::{AskFault, ClockFault, PublishFault, Reply};
 use std::alloc::{AllocError, Global};
 use std::marker::Model;
 
-/// A room that keeps what stands for its open requests: its caller knows a request by its number, and owes nobody a reply. It serves who
-/// goes through events that have happened before.
+/// A room whose caller knows a request by its number, and owes nobody a reply. It is for events that have happened before and are replayed.
 #[derive(Drop)]
 pub struct Replayer {
     room: Room,
@@ -38,7 +37,7 @@ impl Model for Replayer {
 }
 
 impl Replayer {
-    /// The room of this number for a channel of these settings, to which nothing has happened.
+    /// Returns room `channel` for a channel of `settings`, to which nothing has happened.
     pub fn new(alloc: Global, channel: u64, settings: Settings) -> Result<Replayer, AllocError>
         ensures { IfOk result (λ k. k ≡ room_value channel settings (state_of settings [])) }
     {
@@ -47,14 +46,14 @@ impl Replayer {
         })
     }
 
-    /// What it keeps of its channel.
+    /// Returns what it keeps of its channel.
     pub fn room(&self) -> &Room
         ensures { result.now ≡ self.now }
     {
         &self.room
     }
 
-    /// [`Room::publish`].
+    /// Publishes `item` as [`Room::publish`] does.
     pub fn publish(&mut self, item: Item) -> Result<Stamped<u64>, PublishFault>
         ensures accepted { (events : List Event) → Stands self.old events → OnOk result
             ((refusal_after self.old.settings events item ≡ None) × Stands self.new (events ++ Publish item ∷ [])) }
@@ -68,7 +67,7 @@ impl Replayer {
         self.room.publish(item)
     }
 
-    /// [`Room::ask`]: the reply, or none where the request is held. Its number is that of the requests there were with it.
+    /// Makes a request as [`Room::ask`] does. Returns its reply, or `None` if it is held, under the number [`Room::asks`] after this call.
     pub fn ask(&mut self, want: Want) -> Result<Option<Stamped<Reply>>, AskFault>
         ensures answer { (events : List Event) → Stands self.old events
             → IfOk result (λ a. a ≡ now_in (asked self.old want (at_once self.old.settings (held self.old.settings events) events want))) }
@@ -83,7 +82,7 @@ impl Replayer {
         Ok(given(asked))
     }
 
-    /// Makes a request of which [`Room::decide`] decided this, and gives no reply: no playlist is written.
+    /// Makes a request that [`Room::decide`] decided as `decision`, without its reply: no playlist is written.
     pub fn pass(&mut self, decision: Decision) -> Result<(), AllocError>
         requires few { self.old.events < event_end }
         requires decided { IsDecidedOfOne self.old decision }
@@ -95,7 +94,7 @@ impl Replayer {
         self.room.pass(decision)
     }
 
-    /// Hands out the reply to the request of this number, where it is there; the request is then no longer open. It takes no memory.
+    /// Hands out the reply to request `ticket`, which is then no longer open. Returns `None` if no reply to it is there. It takes no memory.
     pub fn collect(&mut self, ticket: u64) -> Option<Stamped<Reply>>
         ensures answer { result ≡ option_map (collected_at self.old ticket) (reply_at ticket self.old.slots) }
         ensures handed { is_some result ≡ true → (events : List Event) → Stands self.old events → Stands self.new (events ++ Collect ticket ∷ []) }
@@ -115,7 +114,7 @@ impl Replayer {
         }
     }
 
-    /// Gives the request of this number up, and answers whether it was open. It takes no memory.
+    /// Closes request `ticket`, and returns whether it was open. It takes no memory.
     pub fn close(&mut self, ticket: u64) -> bool
         ensures answer { result ≡ is_open self.old ticket }
         ensures given_up { result ≡ true → (events : List Event) → Stands self.old events → Stands self.new (events ++ Close ticket ∷ []) }
@@ -131,7 +130,7 @@ impl Replayer {
         }
     }
 
-    /// [`Room::clock`].
+    /// Takes a reading of the clock as [`Room::clock`] does.
     pub fn clock(&mut self, ms: u64) -> Result<(), ClockFault>
         ensures passed { (events : List Event) → Stands self.old events → OnOk result (Stands self.new (events ++ Clock ms ∷ [])) }
         ensures within { OnOk result ((ms ≤ 2 ^ 60) × (self.old.events < event_end)) }
@@ -145,7 +144,7 @@ impl Replayer {
     }
 }
 
-/// The reply that a request gets at once; none where it is held.
+/// Returns the reply at once, or `None` if the request is held.
 fn given(asked: Asked) -> Option<Stamped<Reply>>
     ensures { result ≡ now_in asked }
 {

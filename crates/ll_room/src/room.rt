@@ -1,4 +1,4 @@
-//! What a room keeps of its channel, and what it tells of it.
+//! What a room keeps of its channel, and what can be read of it.
 ghost use Rattle.std.specs.Prelude.{◌≡◌, ◌<◌, ◌≤◌, ◌^◌, ◌++◌, [], IfOk, List, MatchOption, filter, find, length, option_map};
 ghost use Rattle.std.specs.Arc.{arc_value};
 ghost use Rattle.ll_page.specs.View as view;
@@ -13,25 +13,25 @@ ghost use Rattle.ll_verdict.specs.Standing.{standing};
 use ll_book::Book;
 use ll_item::Settings;
 use ll_page::{Rendition, Shown};
+use ll_page_cache::Written;
 use ll_range::Ranges;
 use ll_store::{Store, new_stores};
 use ll_verdict::{Entry, Standing};
 use ll_window::Window;
-use ll_written::Written;
 use std::alloc::{AllocError, Global};
 use std::marker::Model;
 use std::sync::Arc;
 
-/// How many events a channel takes.
+/// The number of events after which a channel takes no more.
 pub(crate) const EVENT_END: u64 = 1 << 60;
 
-/// What is kept of one channel in place of its events: of each rendition what playlists still show and its bytes, the channel's time, and the
-/// requests that wait or whose replies wait.
+/// What is kept of one channel in place of its events: for each rendition, what playlists still show and its bytes; the channel's time; and its open
+/// requests.
 #[derive(Drop)]
 pub struct Room {
     pub(crate) alloc: Global,
     pub(crate) channel: u64,
-    /// The channel as it is now. Its pages share it.
+    /// The channel as it is now, shared with its pages.
     pub(crate) shown: Shown,
     /// The bytes that each rendition has for players. Pages hold none of them.
     pub(crate) stores: Vec<Store>,
@@ -75,11 +75,11 @@ impl Model for Room {
 }
 
 impl Room {
-    /// The room of this number for a channel of these settings, to which nothing has happened.
+    /// Returns room `channel` for a channel of `settings`, to which nothing has happened.
     pub fn new(alloc: Global, channel: u64, settings: Settings) -> Result<Room, AllocError>
         ensures { IfOk result (λ r. r ≡ room_value channel settings (state_of settings [])) }
     {
-        // so that no request is due when it is made, and the last finished segment is in the window
+        // Serves the proof alone: no request is due when it is made, and the last finished segment is in the window.
         prove!(settings.target() >= 1);
         settings.within_limits();
         let settings = Arc::new(alloc, settings)?;
@@ -99,28 +99,28 @@ impl Room {
         })
     }
 
-    /// The number of the room.
+    /// Returns the number of the room.
     pub fn channel(&self) -> u64
         ensures { result ≡ self.now.channel }
     {
         self.channel
     }
 
-    /// The settings of its channel.
+    /// Returns the settings of the channel.
     pub fn settings(&self) -> &Settings
         ensures { result.now ≡ self.now.settings }
     {
         self.shown.settings()
     }
 
-    /// How many items the channel has accepted.
+    /// Returns how many items the channel has accepted.
     pub fn count(&self) -> u64
         ensures { result ≡ self.now.count }
     {
         self.shown.count()
     }
 
-    /// How many requests there were.
+    /// Returns how many requests there were.
     pub fn asks(&self) -> u64
         ensures value { result ≡ self.now.asks }
         ensures few { result ≤ 2 ^ 61 }
@@ -128,7 +128,7 @@ impl Room {
         self.asks
     }
 
-    /// How many events there were.
+    /// Returns how many events there were.
     pub fn events(&self) -> u64
         ensures value { result ≡ self.now.events }
         ensures few { result ≤ 2 ^ 61 }
@@ -136,7 +136,7 @@ impl Room {
         self.events
     }
 
-    /// How many requests are open. Their tickets rise.
+    /// Returns how many requests are open. Their tickets rise.
     pub fn open_requests(&self) -> usize
         ensures value { result ≡ length self.now.slots }
         ensures few { result ≤ 2 ^ 61 }
@@ -145,7 +145,7 @@ impl Room {
         self.book.len()
     }
 
-    /// Returns where the rendition of this index stands, or `None` if the channel has none of that index. It is no event.
+    /// Returns where the rendition of index `rendition` stands, or `None` if the channel has no such rendition. It is no event.
     pub fn standing(&self, rendition: usize) -> Option<Standing>
         ensures { (events : List Event) → Stands self.now events
             → MatchOption result (length self.now.settings.renditions ≤ rendition)
@@ -155,42 +155,42 @@ impl Room {
         Some(Standing::of(self.shown.count(), kept))
     }
 
-    /// Whether the channel has taken as many events as it takes.
+    /// Returns whether the channel has taken 2^60 events.
     pub fn is_full(&self) -> bool
         ensures { result ≡ is_full self.now.events }
     {
         self.events >= EVENT_END
     }
 
-    /// The request that is open under this ticket, where its reply is there: what stands for it can then be collected.
+    /// Returns the open request `ticket` if its reply is there and can be collected, else `None`.
     pub fn ready_at(&self, ticket: u64) -> Option<Entry>
         ensures { result ≡ option_map waiting.entry_in (find (waiting.is_ready_at ticket) self.now.slots) }
     {
         self.book.find_ready(ticket)
     }
 
-    /// How many requests' replies are there, and weren't collected.
+    /// Returns how many open requests have their reply.
     pub fn ready(&self) -> usize
         ensures { result ≡ length (filter waiting.is_ready self.now.slots) }
     {
         self.book.ready()
     }
 
-    /// The request that is open under this ticket: it waits, or its reply does.
+    /// Returns the open request `ticket`, with its reply or without, or `None` if it isn't open.
     pub fn open(&self, ticket: u64) -> Option<Entry>
         ensures { result ≡ waiting.found ticket self.now.slots }
     {
         self.book.find(ticket)
     }
 
-    /// The least ticket whose reply is there.
+    /// Returns the smallest ticket of an open request that has its reply.
     pub fn next_ready(&self) -> Option<u64>
         ensures { result ≡ waiting.first_ready self.now.slots }
     {
         self.book.first_ready()
     }
 
-    /// Whether a request is open under this ticket.
+    /// Returns whether request `ticket` is open.
     pub fn is_open(&self, ticket: u64) -> bool
         ensures { result ≡ is_open self.now ticket }
     {
@@ -198,7 +198,7 @@ impl Room {
     }
 }
 
-/// What is kept of the renditions of a channel with no items, in the order of the settings.
+/// Returns what is kept of each rendition of a channel without items, in the order of `settings`.
 fn no_items(alloc: Global, settings: &Arc<Settings>) -> Result<Vec<Rendition>, AllocError>
     ensures { IfOk result (λ kept. kept.items ≡ view.renditions (arc_value settings.now) []) }
 {

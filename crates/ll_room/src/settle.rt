@@ -1,4 +1,4 @@
-//! What becomes of held requests: their replies are handed out, they are given up, or their time is over.
+//! How held requests end: their replies are collected, they are closed, or they time out.
 ghost use Rattle.std.specs.Prelude.{◌≡◌, ◌≢◌, ◌≤◌, ◌<◌, ◌^◌, ◌++◌, ◌∷◌, [], List, true, false, IsErrOf, OnOk, OnErr, Err, Some, None};
 ghost use Rattle.ll_verdict.specs.Events.{Event, Collect, Close, Clock};
 ghost use Rattle.ll_room.specs.Answers as answers;
@@ -9,13 +9,11 @@ use crate::asked::{Closed, Collected};
 use crate::parked::Parked;
 use crate::room::{EVENT_END, Room};
 use crate::stamped::{Stamp, Stamped};
-use ll_verdict::{ClockFault, Reply};
-
-/// The largest reading of a clock, in milliseconds.
-pub const LAST_TIME: u64 = 1 << 60;
+use ll_verdict::{ClockFault, LAST_TIME, Reply};
 
 impl Room {
-    /// Hands out the reply to a held request, once it is there; the request is then no longer open. It takes no memory.
+    /// Hands out the reply to a held request, which is then no longer open. If it has no reply yet, or isn't open here, `parked` is handed back. It
+    /// takes no memory.
     pub fn collect(&mut self, parked: Parked) -> Collected
         ensures answer { result ≡ answers.collected self.old parked }
         ensures handed { answers.is_got result ≡ true → (events : List Event) → Stands self.old events → Stands self.new (events ++ Collect parked.ticket ∷ []) }
@@ -42,7 +40,7 @@ impl Room {
         }
     }
 
-    /// Gives a held request up, whether its reply is there or not: it gets none. It takes no memory.
+    /// Closes a held request, whether its reply is there or not: it gets none. If it isn't open here, `parked` is handed back. It takes no memory.
     pub fn close(&mut self, parked: Parked) -> Closed
         ensures answer { result ≡ answers.closed self.old parked }
         ensures given_up { answers.is_done result ≡ true → (events : List Event) → Stands self.old events → Stands self.new (events ++ Close parked.ticket ∷ []) }
@@ -63,8 +61,9 @@ impl Room {
         Closed::Done
     }
 
-    /// A reading of the clock, in milliseconds. The channel's time is the largest so far: an earlier reading leaves it as it is.
-    /// Requests that have waited for three target durations then time out. It takes no memory.
+    /// Takes a reading of the clock, `ms`, in milliseconds. The channel's time is the largest so far: a smaller reading leaves it as it is. Requests
+    /// that have waited for three target durations then time out. Fails with `ClockRange` if `ms` is above 2^60, else with `RecordFull` if the
+    /// channel has taken 2^60 events, and never with `Memory`.
     pub fn clock(&mut self, ms: u64) -> Result<(), ClockFault>
         ensures passed { (events : List Event) → Stands self.old events → OnOk result (Stands self.new (events ++ Clock ms ∷ [])) }
         ensures within { OnOk result ((ms ≤ 2 ^ 60) × (self.old.events < event_end)) }

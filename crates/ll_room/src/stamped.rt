@@ -1,3 +1,4 @@
+//! Values with the room and the event that they come from.
 ghost use Rattle.std.specs.Prelude.{◌≡◌};
 
 use ll_directive::Want;
@@ -7,11 +8,11 @@ use std::marker::Model;
 /// The event of a channel that a value comes from.
 #[derive(Drop)]
 pub enum Stamp {
-    /// This item was accepted.
+    /// An item was accepted.
     Publish(Item),
-    /// This request was made: its number, from 1, and what it wants.
+    /// A request was made: its number, from 1, and what it wants.
     Ask(u64, Want),
-    /// The reply to the request of this number was handed out.
+    /// The reply to the request of this number was collected.
     Collect(u64),
 }
 
@@ -32,21 +33,21 @@ impl<T> Model for Stamped<T> {
 }
 
 impl<T> Stamped<T> {
-    /// A value of this event of the room of this number.
+    /// Returns `value` as that of the event `stamp` of room `room`.
     pub(crate) fn new(room: u64, stamp: Stamp, value: T) -> Stamped<T>
         ensures { result ≡ record { room = room; stamp = stamp; value = value } }
     {
         Stamped { room, stamp, value }
     }
 
-    /// The value.
+    /// Returns the value.
     pub fn get(&self) -> &T
         ensures { result.now ≡ self.now.value }
     {
         &self.value
     }
 
-    /// The value, without its stamp.
+    /// Returns the value, without its stamp.
     pub fn into_inner(self) -> T
         ensures { result ≡ self.value }
     {

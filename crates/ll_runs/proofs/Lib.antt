@@ -1,1 +1,2 @@
+-- Lemmas of microseconds and ticks.
 pub mod TimeLemmas

@@ -63,6 +63,6 @@ counted_before scale tick later before counted =
 pub counted_less : (scale tick more : ℕ) → is_counted scale (tick + more) ≡ true → is_counted scale tick ≡ true
 counted_less scale tick more counted = counted_before scale tick (tick + more) (omega arith) counted
 
--- a place before one from which so many ticks end at a counted tick
+-- a place before one from which `ticks` end at a counted tick
 pub counted_place : (scale place position ticks : ℕ) → place ≤ position → is_counted scale (position + ticks) ≡ true → is_counted scale place ≡ true
 counted_place scale place position ticks before counted = counted_before scale place (position + ticks) (omega (arith, before)) counted

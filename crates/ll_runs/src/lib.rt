@@ -1,4 +1,5 @@
-//! Where the fragments of an encoder's stream begin and end, which of them go into one part, and where a segment ends.
+//! Decides where the fragments of an encoder's stream begin and end, which of them go into one part, and where a
+//! segment ends.
 #![tactic(auto)]
 
 mod lengths;

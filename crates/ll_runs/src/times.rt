@@ -1,4 +1,4 @@
-//! Where the fragments of a governing track begin and end, and which of them go into one part.
+//! Decides where the fragments of a governing track begin and end, and which of them go into one part, once it is known what comes after each.
 ghost use Rattle.std.specs.Prelude.{◌≡◌, ◌≢◌, ◌+◌, ◌<◌, ◌≤◌, ◌^◌, true};
 ghost use Rattle.ll_runs.specs.Times as spec;
 ghost use Rattle.ll_runs.specs.Times.{at_tick, by_samples, is_counted, is_nearer, judged, place_of, said_to};
@@ -10,15 +10,15 @@ use ll_mp4::Moment;
 /// The most bytes of a part.
 pub const SIZE_LIMIT: usize = 1_048_576;
 
-/// The last microsecond of the year 9999, from 1970 on.
+/// The last microsecond of the year 9999, counted from 1970-01-01T00:00:00Z.
 pub(crate) const LAST_MICRO: u128 = 253_402_300_799_999_999;
 
-/// How the times of a run of fragments go on: those between two jumps of their decode times.
+/// The times of a run: of the fragments between two jumps of their decode times.
 #[derive(Clone, Copy, Debug, PartialEq, Eq)]
 pub struct Times {
     /// The tick at which the run begins.
     pub base: u64,
-    /// The tick at which the fragment begins that isn't judged yet, or the next one if none waits.
+    /// The tick at which the fragment begins that waits to be judged, or the next one if none waits.
     pub position: u64,
     /// The microsecond of the run at which the part under way begins, or the next one.
     pub start: u64,
@@ -26,15 +26,15 @@ pub struct Times {
     pub independent: bool,
     /// The microsecond of the run at which its segment begins.
     pub segment: u64,
-    /// How long the fragment before lasts, in microseconds; 0 if there is none in the run.
+    /// The duration of the fragment before, in microseconds; 0 if there is none in the run.
     pub before: u64,
-    /// Where the rendition ends as the run begins, in microseconds.
+    /// The end of the rendition as the run begins, in microseconds.
     pub end: u64,
     /// The tick from which the program's time is counted.
     pub origin: u64,
 }
 
-/// What comes after a fragment.
+/// The successor of a fragment.
 #[derive(Clone, Copy, Debug, PartialEq, Eq)]
 pub enum Next {
     /// Nothing of this movie.
@@ -45,7 +45,7 @@ pub enum Next {
     At(u64),
 }
 
-/// What ends before a fragment.
+/// The cut before a fragment: what ends there.
 #[derive(Clone, Copy, Debug, PartialEq, Eq)]
 pub enum Cut {
     /// Nothing: it joins the part under way.
@@ -56,12 +56,12 @@ pub enum Cut {
     Segment,
 }
 
-/// Where a fragment stands of which it is known what comes after it.
+/// The times of a fragment whose successor is known, and the cut before it.
 #[derive(Clone, Copy, Debug, PartialEq, Eq)]
 pub struct Judged {
     /// The microsecond of the run at which it begins.
     pub begin: u64,
-    /// How long it lasts, in microseconds.
+    /// Its duration, in microseconds.
     pub lasts: u64,
     /// The microsecond of the run at which it ends, at most 2^64 - 1.
     pub end: u64,
@@ -71,7 +71,8 @@ pub struct Judged {
     pub ends: bool,
 }
 
-/// A fragment and what goes with it: how long its samples last, whether it begins with a sync sample, and how many bytes all have.
+/// What counts of a fragment: the duration of its samples in ticks, whether it begins with a sync sample, and the bytes of it and of what goes with
+/// it.
 #[derive(Clone, Copy, Debug, PartialEq, Eq)]
 pub struct Weight {
     pub ticks: u64,
@@ -79,7 +80,7 @@ pub struct Weight {
     pub size: usize,
 }
 
-/// Returns `ticks` in whole microseconds, where a second has `scale` ticks, which is never 0.
+/// Returns `ticks` in whole microseconds; a second has `scale` ticks, never 0.
 #[tactic(auto, using(crate::proofs::TimeLemmas::none_pass))]
 pub fn micros(scale: u32, ticks: u128) -> u128
     requires { ticks < 2 ^ 66 }
@@ -88,7 +89,7 @@ pub fn micros(scale: u32, ticks: u128) -> u128
     (ticks * 1_000_000).checked_div(scale as u128).unwrap_or(0)
 }
 
-/// Returns whether `tick` can be counted: it has 64 bits, and is no later than the year 9999 is long.
+/// Returns whether `tick` can be counted: it has 64 bits, and in microseconds is at most the last one of the year 9999.
 pub fn is_counted(scale: u32, tick: u128) -> bool
     requires { tick < 2 ^ 66 }
     ensures { result ≡ spec.is_counted scale tick }
@@ -97,7 +98,7 @@ pub fn is_counted(scale: u32, tick: u128) -> bool
 }
 
 impl Times {
-    /// Returns the times of a run that begins at `tick`.
+    /// Returns the times of a run that begins at `tick`, with the rendition ending at `end`, and times counted from `origin`.
     pub fn from(tick: u64, end: u64, origin: u64) -> Times
         ensures { result ≡ spec.times_from tick end origin }
     {
@@ -121,7 +122,7 @@ impl Times {
         micros(scale, tick.saturating_sub(self.base as u128))
     }
 
-    /// Returns how long the samples of a fragment at the run's position last.
+    /// Returns the duration of the samples of a fragment at the run's position, in microseconds.
     fn by_samples(&self, scale: u32, ticks: u64) -> u128
         ensures { result ≡ by_samples scale self.now ticks }
     {
@@ -130,7 +131,7 @@ impl Times {
             .saturating_sub(self.at_tick(scale, self.position as u128))
     }
 
-    /// Returns how long that fragment is said to last.
+    /// Returns the stated duration of that fragment, in microseconds: up to the next one, or, if none continues it, that of its samples.
     pub fn said_to(&self, scale: u32, ticks: u64, next: Next) -> u128
         ensures { result ≡ said_to scale self.now ticks next }
     {
@@ -143,7 +144,8 @@ impl Times {
     }
 }
 
-/// Returns how long a fragment lasts that is said to last `said` microseconds, and has `ticks` by its samples.
+/// Returns the duration of a fragment, in microseconds: `said`, or, if that is longer than a part, the least of a part, its samples, and the fragment
+/// before it if there is one.
 fn lasts(lengths: &Lengths, scale: u32, times: &Times, ticks: u64, said: u128) -> u64
     ensures { result ≡ spec.lasts lengths.now scale times.now ticks said }
 {
@@ -158,7 +160,7 @@ fn lasts(lengths: &Lengths, scale: u32, times: &Times, ticks: u64, said: u128) -
     (usual as u128).min(times.by_samples(scale, ticks)) as u64
 }
 
-/// Returns whether the segment ends before a fragment that begins `so_far` microseconds after the segment's first part, and lasts `lasts`.
+/// Returns whether the segment ends before a fragment that begins `so_far` microseconds after the segment does, and lasts `lasts`.
 fn ends_segment(lengths: &Lengths, so_far: u64, lasts: u64, sync: bool) -> bool
     ensures { result ≡ spec.ends_segment lengths.now so_far lasts sync }
 {
@@ -194,8 +196,8 @@ fn cut_before(
 }
 
 impl Times {
-    /// Returns where the fragment at the run's position begins, how long it lasts, what ends before it and whether the run ends with it, if `next` comes after it; the part under way
-    /// has `size` bytes.
+    /// Returns the times of the fragment at the run's position, the cut before it, and whether the run ends with it, if `next` comes after it; the
+    /// part under way has `size` bytes.
     #[tactic(auto, using(crate::proofs::TimeLemmas::begins_early))]
     pub fn judge(
         &self,
@@ -221,7 +223,7 @@ impl Times {
     }
 }
 
-/// Returns whether a run ends with a fragment that is said to last `said` microseconds, if `next` comes after it.
+/// Returns whether a run ends with a fragment of the stated duration `said`, in microseconds, if `next` comes after it.
 pub fn ends_run(lengths: &Lengths, said: u128, next: Next) -> bool
     ensures { result ≡ spec.ends_run lengths.now said next }
 {
@@ -231,7 +233,7 @@ pub fn ends_run(lengths: &Lengths, said: u128, next: Next) -> bool
     }
 }
 
-/// Returns what comes after a fragment at tick `position` if the next one begins at tick `time`.
+/// Returns the successor of a fragment at tick `position` if the next one has the decode time `time`.
 pub fn next_at(lengths: &Lengths, scale: u32, position: u64, time: u64) -> Next
     ensures { result ≡ spec.next_at lengths.now scale position time }
 {
@@ -243,7 +245,7 @@ pub fn next_at(lengths: &Lengths, scale: u32, position: u64, time: u64) -> Next
     }
 }
 
-/// Two ticks of a track, a second of which has `scale` ticks.
+/// Two ticks of a track with `scale` ticks in a second.
 #[derive(Clone, Copy, Debug)]
 pub struct Span {
     pub scale: u32,
@@ -267,14 +269,14 @@ impl Span {
 }
 
 impl Times {
-    /// Returns how long the part under way is if it ends at microsecond `end` of the run: one microsecond at least.
+    /// Returns the duration of the part under way if it ends at microsecond `end` of the run: at least one microsecond.
     pub fn duration_to(&self, end: u64) -> u64
         ensures { result ≡ spec.duration_to self.now end }
     {
         end.saturating_sub(self.start).max(1)
     }
 
-    /// Returns where the rendition ends then, at most 2^64 - 1.
+    /// Returns the end of the rendition if the part under way ends at microsecond `end` of the run, at most 2^64 - 1.
     pub fn rendition_end(&self, end: u64) -> u64
         ensures { result ≡ spec.rendition_end self.now end }
     {
@@ -283,7 +285,7 @@ impl Times {
             .saturating_add(self.duration_to(end))
     }
 
-    /// Returns these times with a fragment that joined; the part under way had `size` bytes before it.
+    /// Returns the times with the judged fragment added; the part under way had `size` bytes before it.
     pub fn joined(self, size: usize, judged: Judged, sync: bool) -> Times
         ensures { result ≡ spec.joined_to judged.cut self size judged.begin judged.lasts sync }
     {
@@ -310,7 +312,7 @@ impl Times {
         }
     }
 
-    /// Returns the times after a fragment that ends at microsecond `end` of the run.
+    /// Returns the times after a fragment that ends at microsecond `end` of the run; `ends` says whether the run ends with it.
     pub fn after(self, end: u64, ends: bool, next: Next) -> Times
         ensures place { next ≢ Next.Over → result.position ≡ place_of next }
         ensures times { result ≡ spec.times_after self end ends next }
@@ -323,7 +325,7 @@ impl Times {
         }
     }
 
-    /// Returns how far `tick` is from where the program's time is counted, in microseconds, rounded up.
+    /// Returns the microseconds from the origin of the program's time to `tick`, rounded up.
     #[tactic(auto, using(crate::proofs::TimeLemmas::since_small))]
     pub fn since_origin(&self, scale: u32, tick: u64) -> u64
         requires { is_counted scale tick ≡ true }
@@ -339,7 +341,7 @@ impl Times {
     }
 }
 
-/// Returns the tick at which the next fragment begins, 0 if there is none.
+/// Returns the tick at which the next fragment begins, or 0 if there is none.
 pub fn place_of(next: Next) -> u64
     ensures { result ≡ place_of next }
 {

@@ -60,7 +60,7 @@ pub refused-alike : (c : Configuration) (line media blank : List ℕ) → blank 
 refused-alike c line media blank e =
     item_of-alike c (words line) media blank (sym (ap length e ∙ length-replicate (length media) 0))
 
--- ---- no memory was found for the bytes
+-- ---- the bytes are out of memory
 
 unkept-fine : (channels : List Configuration) (place : ℕ) (r : Result Item ItemFault) → result_err r ≡ None
     → IsRead channels (Some (item_act place r ∷ [])) (Ok (list.One (Refuse out_of_memory)))
@@ -119,13 +119,13 @@ unkept-err channels place c line media blank (Err g) f e wrong ok some =
 
 -- ---- the bytes that digits spell
 
--- so many bytes are few enough
+-- `n` bytes are few enough
 pub offer-few : (channel : Option (ℕ × Configuration)) (line media : List ℕ) (n : ℕ) → n ≡ length media → nat_le n media_limit ≡ true
     → offer_within channel (line, media) ≡ offer_to channel (line, media)
 offer-few channel line media n e few =
     ap (λ b. if b then offer_to channel (line, media) else Refuse refused.MediaTooLong) (subst (λ k. nat_le k media_limit ≡ true) e few)
 
--- so many are too many
+-- `n` bytes are too many
 pub offer-many : (channel : Option (ℕ × Configuration)) (line media : List ℕ) (n : ℕ) → n ≡ length media → nat_le n media_limit ≡ false
     → offer_within channel (line, media) ≡ Refuse refused.MediaTooLong
 offer-many channel line media n e many =

@@ -21,7 +21,7 @@ some-byte (Some high) (Some low) None = refl
 some-byte (Some high) None bytes = refl
 some-byte None low bytes = refl
 
--- a text spells bytes where it is an even number of digits
+-- a text spells bytes if it is an even number of digits
 some-in-hex : (text : List ℕ) → is_some (bytes_in_hex text) ≡ (nat_eq (length text % 2) 0 && list_all (λ b. is_some (hex_digit b)) text)
 some-in-hex [] = refl
 some-in-hex (a ∷ []) = refl

@@ -92,7 +92,7 @@ acts-other channels last line text other offers same u =
     let utf8 = is_utf8-from_IsUtf8 line u in
     (rw (other, offers, utf8) refl) ∙ ap (λ l. begun (kinds channels last) l (alone (declaration channels (settings_in l)))) same
 
--- a request for whose target no memory was found is answered so, unless its channel isn't there
+-- a request whose target is out of memory is answered so, unless there is no such channel
 pub unread-ask : (channels : List Configuration) (id : ℕ) (r : Result WantValue TargetFault) (f : TargetFault) → IsOk r
     → ((want : WantValue) → r ≡ Ok want → f ≡ (if is_some (channel_of_name channels 0 want.channel) then target.Memory else target.NotFound))
     → AreRead channels (Some (ask channels id r ∷ [])) (list.One (Answer id f))

@@ -1,4 +1,4 @@
--- The definitions, computed: each side of these equations comes to the same value.
+-- The definitions, computed: both sides of each equation have the same value.
 use Rattle.std.proofs.Common.{refl}
 use Rattle.std.specs.Char.{encode_utf8}
 use Rattle.std.specs.Fmt.{digits}

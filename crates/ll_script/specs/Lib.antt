@@ -1,3 +1,4 @@
+-- The definitions of `ll_script`, by files.
 pub mod Answers
 pub mod Hex
 pub mod Lines

@@ -1,4 +1,4 @@
--- What the lines of a script mean.
+-- What each line of a script makes happen.
 use Rattle.std.specs.Prelude.{◌≡◌, ℕ, ◌+◌, ◌^◌, List, [], ◌∷◌, Bool, true, false, ◌==◌, Option, Some, None, Result, Ok, Err, if◌then◌else◌, is_none, length, map, option_map, nat_le, nat_lt, codes}
 use Rattle.std.specs.Str.{is_utf8}
 use Rattle.ll_attr.specs.Numbers.{number_in}
@@ -42,11 +42,11 @@ abbrev pub offer_to : Option (ℕ × Configuration) → List ℕ × List ℕ →
 offer_to None item = Refuse refused.UnknownChannel
 offer_to (Some channel) item = item_act channel.0 (item_in channel.1 item.0 item.1)
 
--- an item's line and its bytes; too many are refused before anything else is looked at
+-- an item's line and its bytes; too many bytes are refused before anything else is checked
 abbrev pub offer_within : Option (ℕ × Configuration) → List ℕ × List ℕ → Act
 offer_within channel item = if nat_le (length item.1) media_limit then offer_to channel item else Refuse refused.MediaTooLong
 
--- the bytes that a word spells by two hexadecimal digits each, where there is one or more
+-- the bytes that a word spells by two hexadecimal digits each, if it spells at least one
 abbrev pub bytes_spelled : List ℕ → Option (List ℕ)
 bytes_spelled [] = None
 bytes_spelled (b ∷ bs) = bytes_in_hex (b ∷ bs)
@@ -59,8 +59,8 @@ abbrev pub item_before : Option (List ℕ × List ℕ) → List ℕ → List ℕ
 item_before None line = (line, [])
 item_before (Some (item, word)) line = item_with (bytes_spelled word) item line
 
--- An item's line without its bytes, and these: in a script they stand as one word in the place of their number. No item has the line of another
--- word there.
+-- An item's line without its bytes, and the bytes: in a script they stand as one word in place of their number. No item has a line with
+-- any other word there.
 abbrev pub without_bytes : List ℕ → List ℕ × List ℕ
 without_bytes line = item_before (told_bytes line) line
 
@@ -68,7 +68,7 @@ abbrev pub at_by : ℕ → Result ℕ ItemFault → Act
 at_by place (Ok rendition) = At place rendition
 at_by place (Err fault) = Refuse (item_refusal fault)
 
--- a question where the rendition of this name stands, in a channel of this place and these settings, if there is one
+-- a question where the rendition of this name stands, in the channel with this place and settings, if there is one
 abbrev pub at_in : Option (ℕ × Configuration) → List ℕ → Act
 at_in None rendition = Refuse refused.UnknownChannel
 at_in (Some channel) rendition = at_by channel.0 (named channel.1 rendition)
@@ -80,13 +80,13 @@ offer_by channels said.Bad = Refuse refused.BadLine
 offer_by channels said.TooLong = Refuse refused.LineTooLong
 offer_by channels said.MediaTooLong = Refuse refused.MediaTooLong
 
--- a publisher's line, however long it is: `line_of` is neither `TooLong` nor `MediaTooLong`
+-- a publisher's line of any length: `line_of` is neither `TooLong` nor `MediaTooLong`
 abbrev pub offer : List Configuration → List ℕ → Act
 offer channels text = offer_by channels (line_of text)
 
 -- ---- requests
 
--- numbers of requests rise
+-- whether `id` is larger than the number of the last request, if there was one
 abbrev pub rises : Option ℕ → ℕ → Bool
 rises None id = true
 rises (Some last) id = nat_lt last id
@@ -95,7 +95,7 @@ abbrev pub ask_in : ℕ → WantValue → Option (ℕ × Configuration) → Act
 ask_in id want None = Answer id target.NotFound
 ask_in id want (Some channel) = Ask id channel.0 want
 
--- a request to the channel that its target names, or its answer where it wants nothing of any channel
+-- a request to the channel that its target names, or its answer if its target is refused or names no channel
 abbrev pub ask : List Configuration → ℕ → Result WantValue TargetFault → Act
 ask channels id (Ok want) = ask_in id want (channel_of_name channels 0 want.channel)
 ask channels id (Err fault) = Answer id fault
@@ -115,12 +115,12 @@ close_of text = option_map (λ id. Close id) (number_in 9 text)
 
 -- ---- the clock
 
--- a reading for each of these channels; the first has this place
+-- a reading for each of these channels, of which the first is at `place`
 abbrev pub clocks_from : ℕ → List Configuration → ℕ → List Act
 clocks_from place [] ms = []
 clocks_from place (c ∷ more) ms = Clock place ms ∷ clocks_from (place + 1) more ms
 
--- a reading above 2^60 is none of any channel
+-- a reading for each channel; one above 2^60 is refused
 abbrev pub reading : List Configuration → ℕ → List Act
 reading channels ms = if nat_le ms (2 ^ 60) then clocks_from 0 channels ms else RefuseClock ∷ []
 
@@ -145,7 +145,7 @@ drop_of text = option_map (λ number. Drop number) (number_in 9 text)
 
 -- ---- lines
 
--- a channel whose name no other has
+-- a new channel, whose name no other has
 abbrev pub declaration : List Configuration → Result Configuration SettingsFault → Option Act
 declaration channels (Err fault) = None
 declaration channels (Ok c) = if is_none (channel_of_name channels 0 c.channel) then Some (Declare c) else None
@@ -153,11 +153,11 @@ declaration channels (Ok c) = if is_none (channel_of_name channels 0 c.channel) 
 abbrev pub alone : Option Act → Option (List Act)
 alone act = option_map (λ a. a ∷ []) act
 
--- what a keyword's line means, by what follows the keyword
+-- a keyword, and what its line means by what follows the keyword
 abbrev pub Kind : Type 0
 Kind = List ℕ × (List ℕ → Option (List Act))
 
--- every kind of line but a publisher's and a declaration
+-- every kind of line except a publisher's and a declaration
 abbrev pub kinds : List Configuration → Option ℕ → List Kind
 kinds channels last =
     (codes "get ", λ text. alone (get_of channels last (words text)))
@@ -167,12 +167,12 @@ kinds channels last =
     ∷ (codes "drop ", λ text. alone (drop_of text))
     ∷ []
 
--- a keyword's line means this by what follows the keyword, and a line that doesn't begin with the keyword means the other
+-- what a line means by `means` if it begins with the keyword, of what follows the keyword; else `other`
 abbrev pub begun_by : Option (List ℕ) → (List ℕ → Option (List Act)) → Option (List Act) → Option (List Act)
 begun_by None means other = other
 begun_by (Some text) means other = means text
 
--- what a line means by the first of these keywords that it begins with; one that begins with none of them means the other
+-- what a line means by the first of these keywords that it begins with; `other` if it begins with none
 abbrev pub begun : List Kind → List ℕ → Option (List Act) → Option (List Act)
 begun [] line other = other
 begun (kind ∷ more) line other = begun_by (after kind.0 line) kind.1 (begun more line other)
@@ -184,27 +184,27 @@ acts_by channels last line None =
     then begun (kinds channels last) line (alone (declaration channels (settings_in line)))
     else None
 
--- What a line makes happen, one after another, where these channels are declared and the last request had this number; a line that
--- no script has in its place means nothing.
+-- What a line makes happen, act by act, if these channels are declared and `last` is the number of the last request; `None` if no script
+-- has this line in this place.
 abbrev pub acts : List Configuration → Option ℕ → List ℕ → Option (List Act)
 acts channels last line = if is_passed_over line then Some [] else acts_by channels last line (after (codes "pub ") line)
 
 -- ---- memory
 
--- what an act comes to for which no memory is found: an item is refused so, a request is answered so; no other act is
+-- an act that is out of memory: an item is refused for that, a request is answered so, and any other act stays as it is
 abbrev pub starved : Act → Act
 starved (Offer place item) = Refuse out_of_memory
 starved (Ask id place want) = Answer id target.Memory
 starved other = other
 
--- the acts of a line for whose item or request no memory is found, or memory is
+-- the acts of a line, of which the item or request is out of memory or not
 abbrev pub starved_if : Bool → List Act → List Act
 starved_if true acts = map starved acts
 starved_if false acts = acts
 
 -- ---- what was read
 
--- the acts that are meant by what was read of a line
+-- the acts for which the value read from a line stands
 abbrev pub meant_acts : List Configuration → Acts → List Act
 meant_acts channels list.None = []
 meant_acts channels (list.One act) = act ∷ []
@@ -218,12 +218,12 @@ abbrev pub is_memory_refusal : Refusal → Bool
 is_memory_refusal (refused.Rule rule.Memory) = true
 is_memory_refusal other = false
 
--- whether what was read of a line tells that no memory was found for its item or request
+-- whether the value read from a line says that its item or request was out of memory
 abbrev pub tells_memory : Acts → Bool
 tells_memory (list.One (Answer id fault)) = is_memory_fault fault
 tells_memory (list.One (Refuse reason)) = is_memory_refusal reason
 tells_memory other = false
 
--- what was read of a line that means these acts: they are, or no memory was found for its item or request
+-- `acts` was read from a line that means `meant`: they are the same, except that its item or request may be out of memory
 abbrev pub AreRead : List Configuration → Option (List Act) → Acts → Type 0
 AreRead channels meant acts = option_map (starved_if (tells_memory acts)) meant ≡ Some (meant_acts channels acts)

@@ -1,4 +1,4 @@
--- The definitions at worked lines: what each means, and how answers are spelled.
+-- Worked examples: what lines of a script mean, and how answers are spelled.
 use Rattle.std.specs.Prelude.{◌≡◌, ◌++◌, List, ℕ, [], ◌∷◌, Some, None, codes, Bool, true, false}
 use Rattle.ll_directive.specs.Targets.{WantValue, media_want}
 use Rattle.ll_directive.specs.declared.fault.TargetFault.TheVariants as target
@@ -15,7 +15,7 @@ use Rattle.ll_script.specs.declared.act.Act.TheVariants.{Offer, At, Refuse, Ask,
 use Rattle.ll_verdict.specs.declared.fault.ClockFault.TheVariants as clock
 use Rattle.ll_item.specs.declared.what.What.{What}
 use Rattle.ll_item.specs.declared.what.What.TheVariants as what
-use Rattle.ll_verdict.specs.declared.piece.Piece.{Piece}
+use Rattle.ll_verdict.specs.declared.piece.MediaReply.{MediaReply}
 use Rattle.ll_verdict.specs.declared.reply.Reply.TheVariants as reply
 use Rattle.ll_verdict.specs.declared.standing.Standing.{Standing}
 use Rattle.ll_wire.specs.Response.{media_message}
@@ -27,7 +27,7 @@ named name = record { channel = name; target = 4; part_target = 1000000; skip = 
 abbrev pub both : List Configuration
 both = named (codes "cam") ∷ named (codes "two") ∷ []
 
--- a request of the second channel for the playlist of a rendition of this name
+-- a request of the second channel for the playlist of `rendition`
 abbrev pub of_two : List ℕ → Awaited → WantValue
 of_two rendition awaited = record { channel = codes "two"; rendition = rendition; what = what.Playlist; awaited = awaited; skip = None }
 
@@ -35,18 +35,18 @@ of_two rendition awaited = record { channel = codes "two"; rendition = rendition
 abbrev pub media_of_two : What → WantValue
 media_of_two what = media_want (codes "two") (codes "hi") what
 
--- media of these bytes
-abbrev pub piece : List ℕ → Piece
+-- media with these bytes
+abbrev pub piece : List ℕ → MediaReply
 piece bytes = record { bytes = bytes; number = 1; rendition = 0; what = what.Init 0 }
 
--- a rendition that has two and a half seconds of parts, and has ended or not
+-- a rendition with two and a half seconds of parts, which has ended or not
 abbrev pub standing : Bool → Standing
 standing ended = record { count = 3; number = 12; index = 0; end_time = 2500001; time = 2501; ended = ended }
 
--- what lines mean after the request 6
+-- what lines mean after request 6
 pub record WorkedLines : Type 0 where
   pub waits : acts both (Some 6) (codes "get 7 /two/hi/live.m3u8?_HLS_msn=3&_HLS_part=1") ≡ Some (Ask 7 1 (of_two (codes "hi") (awaited.Part 3 1)) ∷ [])
-  -- whether the channel has the rendition isn't looked at
+  -- whether the channel has the rendition isn't checked
   pub any_rendition : acts both (Some 6) (codes "get 7 /two/lo/live.m3u8") ≡ Some (Ask 7 1 (of_two (codes "lo") awaited.Nothing) ∷ [])
   pub no_channel : acts both (Some 6) (codes "get 7 /three/hi/live.m3u8") ≡ Some (Answer 7 target.NotFound ∷ [])
   pub segment : acts both (Some 6) (codes "get 7 /two/hi/s0.m4s") ≡ Some (Ask 7 1 (media_of_two (what.Segment 0)) ∷ [])

@@ -1,4 +1,5 @@
-use crate::piece::Piece;
+//! What the lines of a script make happen.
+use crate::piece::Received;
 use ll_directive::{TargetFault, Want};
 use ll_item::{Item, Settings};
 use ll_publish::Refusal;
@@ -10,23 +11,24 @@ pub enum Act {
     Declare(Settings),
     /// An item for a channel.
     Offer { place: usize, item: Item },
-    /// A publisher's question where a rendition of a channel stands, by its index. It is no event.
+    /// A publisher's question where the rendition of index `rendition` stands. It is no event.
     At { place: usize, rendition: usize },
-    /// A publisher's line that is neither an item for a channel nor a question where a rendition of one stands. No line of a script is `LineTooLong`: a publisher's line is as long as any other.
+    /// A publisher's line that is neither an item for a channel nor a question where a rendition of one stands. It is never
+    /// `LineTooLong`, because it may be as long as any line of a script.
     Refuse(Refusal),
-    /// A request, with its number, to a channel. Whether the channel has the rendition that is wanted isn't looked at.
+    /// A request to a channel, with its number. Whether the channel has the rendition that it names isn't checked.
     Ask { id: u64, place: usize, want: Want },
-    /// A request that is no event of any channel: its target is malformed, or names no playlist or no channel.
+    /// A request that is no event of any channel: its target is malformed, names no file or no channel, or was out of memory.
     Answer { id: u64, fault: TargetFault },
-    /// The request of this number is given up.
+    /// The end of the request with this number, without a reply.
     Close(u64),
     /// A reading of a channel's clock, in milliseconds.
     Clock { place: usize, ms: u64 },
     /// A reading of the clock above 2^60.
     RefuseClock,
-    /// These bytes came on the connection of this number.
-    Bytes { number: u64, piece: Piece },
-    /// The connection of this number ended: it sends no more, and reads no more.
+    /// Bytes that came on the connection with this number.
+    Bytes { number: u64, piece: Received },
+    /// The end of the connection with this number: it sends no more, and reads no more.
     Drop(u64),
 }
 

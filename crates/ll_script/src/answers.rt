@@ -1,4 +1,4 @@
-//! The lines that answer the lines of a script, but for publishers' lines.
+//! The lines that answer the lines of a script, except those of publishers.
 ghost use Rattle.std.specs.Prelude.{◌≡◌, ◌++◌, IfOk, OnOk, decimal, length, string_bytes};
 ghost use Rattle.std.specs.List.{concat};
 ghost use Rattle.ll_script.specs.Answers as spec;
@@ -13,15 +13,15 @@ use ll_verdict::{AskFault, ClockFault, Reply};
 use ll_wire::{Slices, is_media_response};
 use std::alloc::{AllocError, Global};
 
-/// A reading of the clock is refused.
+/// Returns the line that refuses a reading of the clock for `fault`.
 pub fn clock_line(alloc: Global, fault: ClockFault) -> Result<String, AllocError>
     ensures { IfOk result (λ t. string_bytes t ≡ spec.clock_line fault) }
 {
     refusal_line(alloc, fault.code(), fault.name())
 }
 
-/// A request gets the reply of its channel: a playlist or delta update after its length, media in hexadecimal digits after its length, or a
-/// status and a name that say why there is none. It fails too where the bytes of media aren't known.
+/// Returns the reply of its channel to request `id`: a playlist or delta update after its length in bytes, media in hexadecimal digits after
+/// its length in bytes, or a status and a name that say why there is none. It fails also if the bytes of media aren't known.
 pub fn reply_lines(alloc: Global, id: u64, reply: &Reply) -> Result<String, AllocError>
     ensures { IfOk result (λ t. string_bytes t ≡ spec.reply_lines id reply.now) }
 {
@@ -34,21 +34,21 @@ pub fn reply_lines(alloc: Global, id: u64, reply: &Reply) -> Result<String, Allo
     }
 }
 
-/// The target of a request wants nothing.
+/// Returns the answer to request `id` whose target is refused for `fault`.
 pub fn fault_line(alloc: Global, id: u64, fault: TargetFault) -> Result<String, AllocError>
     ensures { IfOk result (λ t. string_bytes t ≡ spec.fault_line id fault) }
 {
     named_reply(alloc, id, fault.status(), fault.name())
 }
 
-/// A request is no event of its channel, which can't take it now.
+/// Returns the answer to request `id` that its channel can't take now, so that it is no event of it.
 pub fn unasked_line(alloc: Global, id: u64, fault: AskFault) -> Result<String, AllocError>
     ensures { IfOk result (λ t. string_bytes t ≡ spec.unasked_line id fault) }
 {
     named_reply(alloc, id, 503, fault.name())
 }
 
-/// An answer of a connection, after the text so far. Where no memory is found, the text may have got some of it.
+/// Appends to `text` an answer of connection `number`, after its length in bytes. If it fails, `text` may have got some of it.
 pub fn push_sent(text: &mut Vec<u8>, number: u64, answer: &Slices<'_>) -> Result<(), AllocError>
     ensures { OnOk result (text.new.items ≡ text.old.items ++ spec.sent_line number answer.now) }
 {
@@ -60,7 +60,7 @@ pub fn push_sent(text: &mut Vec<u8>, number: u64, answer: &Slices<'_>) -> Result
     push_ended(text, answer)
 }
 
-/// A response, and LF after media.
+/// Appends a response, and LF after media.
 fn push_ended(text: &mut Vec<u8>, answer: &Slices<'_>) -> Result<(), AllocError>
     ensures { OnOk result (text.new.items ≡ text.old.items ++ spec.ended answer.now) }
 {
@@ -72,7 +72,7 @@ fn push_ended(text: &mut Vec<u8>, answer: &Slices<'_>) -> Result<(), AllocError>
     text.extend_from_slice(b"\n")
 }
 
-/// A connection has shut by itself.
+/// Appends to `text` the line that says that connection `number` has shut by itself.
 #[tactic(auto, unfolding(crate::specs::Answers::shut_line))]
 pub fn push_shut(text: &mut Vec<u8>, number: u64) -> Result<(), AllocError>
     ensures { OnOk result (text.new.items ≡ text.old.items ++ spec.shut_line number) }
@@ -82,7 +82,7 @@ pub fn push_shut(text: &mut Vec<u8>, number: u64) -> Result<(), AllocError>
     text.extend_from_slice(b"\n")
 }
 
-/// A number in decimal digits, after the text so far.
+/// Appends `number` in decimal digits.
 fn push_number(text: &mut Vec<u8>, number: u64) -> Result<(), AllocError>
     ensures { OnOk result (text.new.items ≡ text.old.items ++ decimal number) }
 {
@@ -90,7 +90,7 @@ fn push_number(text: &mut Vec<u8>, number: u64) -> Result<(), AllocError>
     text.extend_from_slice(digits.format(number).as_bytes())
 }
 
-/// A request gets media.
+/// Returns the reply to request `id` with media.
 fn media_reply(alloc: Global, id: u64, media: &Blocks) -> Result<String, AllocError>
     ensures { IfOk result (λ t. string_bytes t ≡ spec.text_reply id (length media.now) (spec.media_text media.now)) }
 {
@@ -98,7 +98,7 @@ fn media_reply(alloc: Global, id: u64, media: &Blocks) -> Result<String, AllocEr
     text_reply(alloc, id, media.len(), &text)
 }
 
-/// The text that tells media.
+/// Returns the bytes of media in hexadecimal digits, and LF.
 fn media_text(alloc: Global, media: &Blocks) -> Result<String, AllocError>
     ensures { IfOk result (λ t. string_bytes t ≡ spec.media_text media.now) }
 {
@@ -109,7 +109,7 @@ fn media_text(alloc: Global, media: &Blocks) -> Result<String, AllocError>
     Ok(text)
 }
 
-/// Adds the bytes of these parts. It fails too where only the number of these bytes is known.
+/// Appends the bytes of `parts`. It fails also if only the number of these bytes is known.
 fn push_parts(bytes: &mut Vec<u8>, parts: &[Media]) -> Result<(), AllocError>
     ensures { OnOk result (bytes.new.items ≡ bytes.old.items ++ concat parts.now) }
 {
@@ -122,7 +122,7 @@ fn push_parts(bytes: &mut Vec<u8>, parts: &[Media]) -> Result<(), AllocError>
     Ok(())
 }
 
-/// A request gets something of this length, which this text tells.
+/// Returns the reply to request `id` with a playlist or media of `length` bytes, as spelled by `text`.
 #[tactic(auto, unfolding(crate::specs::Answers::text_reply))]
 fn text_reply(alloc: Global, id: u64, length: u64, text: &str) -> Result<String, AllocError>
     ensures { IfOk result (λ t. string_bytes t ≡ spec.text_reply id length text.now) }
@@ -130,7 +130,7 @@ fn text_reply(alloc: Global, id: u64, length: u64, text: &str) -> Result<String,
     format!(in alloc; "reply {id} 200 {length}\n{text}")
 }
 
-/// A request gets no text, and a status and a name that say why.
+/// Returns the reply to request `id` with a status and a name only, which say why it gets nothing else.
 #[tactic(auto, unfolding(crate::specs::Answers::named_reply))]
 fn named_reply(alloc: Global, id: u64, status: u16, name: &str) -> Result<String, AllocError>
     ensures { IfOk result (λ t. string_bytes t ≡ spec.named_reply id status name.now) }

@@ -1,14 +1,15 @@
+//! Bytes that a script says have come on a connection.
 ghost use Rattle.std.specs.Prelude.{◌≡◌};
 
 use std::marker::Model;
 
-/// Bytes that came on a connection, which contracts see as a list.
+/// Bytes that came on a connection.
 #[derive(Drop)]
-pub struct Piece {
+pub struct Received {
     bytes: Vec<u8>,
 }
 
-impl Model for Piece {
+impl Model for Received {
     ghost use Rattle.std.specs.Prelude.{List, ℕ};
 
     ghost Value = { List ℕ };
@@ -16,15 +17,15 @@ impl Model for Piece {
     ghost view = { λ p. p.bytes.items };
 }
 
-impl Piece {
-    /// These bytes.
-    pub(crate) fn new(bytes: Vec<u8>) -> Piece
+impl Received {
+    /// Wraps `bytes`.
+    pub(crate) fn new(bytes: Vec<u8>) -> Received
         ensures { result ≡ bytes.items }
     {
-        Piece { bytes }
+        Received { bytes }
     }
 
-    /// The bytes, borrowed.
+    /// Returns the bytes.
     pub fn as_slice(&self) -> &[u8]
         ensures { result.now ≡ self.now }
     {

@@ -1,4 +1,4 @@
-//! What the lines of a script mean.
+//! Reads a line of a script into the acts that it makes happen.
 ghost use Rattle.std.specs.Prelude.{◌≡◌, ◌∷◌, [], IfOk, IsErrOf, IsSome, MatchOption, Ok, None, Some, codes, if◌then◌else◌, is_some, length, ℕ, List, Option};
 ghost use Rattle.ll_attr.specs.Words.{after, words};
 ghost use Rattle.ll_item.specs.Channels.{channel_of_name};
@@ -13,34 +13,31 @@ ghost use Rattle.ll_script.specs.Reads.{IsRead};
 
 use crate::act::{Act, Acts};
 use crate::hexadecimal::{is_hex, read_hex};
-use crate::piece::Piece;
+use crate::piece::Received;
 use ll_attr::{after, cut, parse_number};
 use ll_directive::{TargetFault, named_channel, read_target};
 use ll_item::{Channels, Item, Payload, Settings, SettingsFault, told_bytes};
 use ll_publish::{Line, Refusal};
-use ll_verdict::PublishFault;
+use ll_verdict::{LAST_TIME, PublishFault};
 use std::alloc::Global;
 use std::str;
 use thiserror::Error;
 
-/// The last reading of a clock that is one of a channel's.
-const LAST_TIME: u64 = 1 << 60;
-
-/// Why a line makes nothing happen.
+/// Why a line can't be read.
 #[derive(Clone, Copy, Debug, PartialEq, Eq, Error)]
 pub enum LineFault {
-    /// No script has this line in its place.
+    /// No script has this line in this place.
     #[error("BadLine")]
     BadLine,
-    /// No memory was found.
+    /// Out of memory.
     #[error("Memory")]
     Memory,
 }
 
-/// What a line without its end makes happen, where these channels are declared and the last request had this number: a new channel, an
-/// item, a question where a rendition stands, a request, the end of one, readings of the clock, bytes on a connection, or the end of one; a
-/// comment or an empty line, nothing. Where no memory is found for an item or a request, that is what happens: it is refused so. Memory is answered only for another
-/// line that has its place.
+/// Parses a line of a script, without its end, if `declared` are the channels so far and `last` is the number of the last request. It makes
+/// one of these happen: a new channel, an item, a question where a rendition stands, a request, the end of one, readings of the clock, bytes
+/// on a connection, the end of one; or nothing, if it is a comment or empty. An item or a request that is out of memory is an act too, a
+/// refusal or an answer that says so; [`LineFault::Memory`] is for all other lines, if they are allowed in this place.
 pub fn read_line(
     alloc: Global,
     declared: &Channels,
@@ -54,7 +51,7 @@ pub fn read_line(
     read_any(alloc, declared, last, line)
 }
 
-/// What a line makes happen.
+/// Parses any line.
 fn read_any(
     alloc: Global,
     declared: &Channels,
@@ -75,7 +72,7 @@ fn read_any(
     }
 }
 
-/// Whether a line is a comment or empty.
+/// Returns whether a line is a comment or empty.
 fn is_passed_over(line: &[u8]) -> bool
     ensures { result ≡ spec.is_passed_over line.now }
 {
@@ -85,7 +82,7 @@ fn is_passed_over(line: &[u8]) -> bool
     }
 }
 
-/// What a publisher sends by a line, where it is a publisher's.
+/// Returns what follows `pub ` in a publisher's line, or `None` for any other line.
 fn published(line: &[u8]) -> Option<&[u8]>
     ensures { MatchOption result (after (codes "pub ") line.now ≡ None) (λ text. after (codes "pub ") line.now ≡ Some text.now) }
 {
@@ -96,7 +93,7 @@ fn published(line: &[u8]) -> Option<&[u8]>
     }
 }
 
-/// What a line makes happen that is no publisher's.
+/// Parses a line that is no publisher's, nor a comment or empty.
 fn read_other(
     alloc: Global,
     declared: &Channels,
@@ -124,7 +121,7 @@ fn read_other(
     }
 }
 
-/// A publisher's line. None is too long.
+/// Parses a publisher's line, which may have any length.
 fn read_offer(alloc: Global, declared: &Channels, text: &[u8]) -> Result<Acts, LineFault>
     ensures { IsRead declared.now (Some (spec.offer declared.now text.now ∷ [])) result }
 {
@@ -137,7 +134,7 @@ fn read_offer(alloc: Global, declared: &Channels, text: &[u8]) -> Result<Acts, L
     }
 }
 
-/// Returns what the question makes happen where the rendition of this name stands, in the channel named `name`.
+/// Returns the act of a question where `rendition` of the channel `name` stands.
 fn read_at(declared: &Channels, name: &str, rendition: &str) -> Act
     ensures { result ≡ spec.at_in (channel_of_name declared.now 0 name.now) rendition.now }
 {
@@ -150,7 +147,7 @@ fn read_at(declared: &Channels, name: &str, rendition: &str) -> Act
     }
 }
 
-/// An item that is announced to the channel of this name by a line in which its bytes may stand.
+/// Parses an item for the channel `name` from a line that may spell its bytes.
 fn read_announced(
     alloc: Global,
     declared: &Channels,
@@ -167,15 +164,15 @@ fn read_announced(
     }
 }
 
-/// Whether a word spells one byte or more by two digits each.
+/// Returns whether `word` spells at least one byte, by two hexadecimal digits each.
 fn spells_bytes(word: &str) -> bool
     ensures { result ≡ is_some (spec.bytes_spelled word.now) }
 {
     !word.is_empty() && is_hex(word)
 }
 
-/// An item of this line for the channel of this name, with the bytes that these digits spell. Memory for them is taken only where they aren't too
-/// many, and that none is found comes after all other faults.
+/// Parses an item for the channel `name`, with the bytes that `digits` spell. These are allocated only if they aren't too many, and out of
+/// memory comes after all other faults.
 fn read_spelled(
     alloc: Global,
     declared: &Channels,
@@ -196,7 +193,7 @@ fn read_spelled(
     }
 }
 
-/// An item of this line and these bytes for the channel of this name.
+/// Parses an item for the channel `name`, with these bytes.
 fn read_with_bytes(
     alloc: Global,
     declared: &Channels,
@@ -212,7 +209,7 @@ fn read_with_bytes(
     }
 }
 
-/// An item of this line and payload for the channel of this name.
+/// Parses an item for the channel `name`, with this payload.
 fn read_offered(
     alloc: Global,
     declared: &Channels,
@@ -228,7 +225,7 @@ fn read_offered(
     }
 }
 
-/// What an item's line makes happen in the channel at this place.
+/// Parses an item for the channel at `place`, which has `settings`.
 fn read_item(
     alloc: Global,
     place: usize,
@@ -244,7 +241,7 @@ fn read_item(
     }
 }
 
-/// An item of this line for the channel of this name, for whose bytes no memory was found; so many zeros stand for them.
+/// Refuses an item for the channel `name` whose bytes were out of memory; `blank` has as many zeros.
 fn read_unkept(
     alloc: Global,
     declared: &Channels,
@@ -261,7 +258,7 @@ fn read_unkept(
     }
 }
 
-/// Why an item of this line isn't offered to a channel of these settings, where no memory was found for its bytes.
+/// Refuses an item whose bytes were out of memory: for the fault of its line by `settings`, or else for Memory.
 fn refuse_unkept(
     alloc: Global,
     settings: &Settings,
@@ -277,7 +274,7 @@ fn refuse_unkept(
     }
 }
 
-/// A request whose number rises.
+/// Parses a request, whose number must be larger than `last`.
 fn read_get(
     alloc: Global,
     declared: &Channels,
@@ -292,7 +289,7 @@ fn read_get(
     }
 }
 
-/// The number and the target of a request, where the number rises.
+/// Returns the number and the target of a request, or `None` if they are malformed or the number isn't larger than `last`.
 fn get_words(last: Option<u64>, text: &str) -> Option<(u64, &str)>
     ensures { (channels : List Configuration) → MatchOption result (spec.get_of channels last (words text.now) ≡ None)
         (λ g. spec.get_of channels last (words text.now) ≡ Some (spec.ask channels g.0 (want_in g.1.now))) }
@@ -311,7 +308,7 @@ fn get_words(last: Option<u64>, text: &str) -> Option<(u64, &str)>
     Some((id, target))
 }
 
-/// What a request of this number for this target makes happen.
+/// Returns what the request `id` for `target` makes happen.
 fn read_ask(alloc: Global, declared: &Channels, id: u64, target: &str) -> Result<Acts, LineFault>
     ensures { IsRead declared.now (Some (spec.ask declared.now id (want_in target.now) ∷ [])) result }
 {
@@ -331,7 +328,7 @@ fn read_ask(alloc: Global, declared: &Channels, id: u64, target: &str) -> Result
     }
 }
 
-/// What a request is answered for whose target no memory was found: a channel that isn't there is told so all the same.
+/// Returns the answer to a request whose target was out of memory: NotFound if there is no such channel, else Memory.
 fn unread_fault(declared: &Channels, target: &str) -> TargetFault
     ensures { (want : WantValue) → want_in target.now ≡ Ok want
         → result ≡ if is_some (channel_of_name declared.now 0 want.channel) then TargetFault.Memory else TargetFault.NotFound }
@@ -342,7 +339,7 @@ fn unread_fault(declared: &Channels, target: &str) -> TargetFault
     }
 }
 
-/// The end of a request.
+/// Parses the end of a request.
 fn read_close(text: &str) -> Result<Acts, LineFault>
     ensures { (channels : List Configuration) → IsRead channels (alone (spec.close_of text.now)) result }
 {
@@ -352,7 +349,7 @@ fn read_close(text: &str) -> Result<Acts, LineFault>
     }
 }
 
-/// A reading of the clock.
+/// Parses a reading of the clock, in milliseconds.
 fn read_clock(text: &str) -> Result<Acts, LineFault>
     ensures { (channels : List Configuration) → IsRead channels (spec.clock_of channels text.now) result }
 {
@@ -363,7 +360,7 @@ fn read_clock(text: &str) -> Result<Acts, LineFault>
     }
 }
 
-/// Bytes that came on a connection.
+/// Parses bytes that came on a connection.
 fn read_piece(alloc: Global, text: &str) -> Result<Acts, LineFault>
     ensures { (channels : List Configuration) → IsRead channels (alone (spec.bytes_of (words text.now))) result }
 {
@@ -373,13 +370,13 @@ fn read_piece(alloc: Global, text: &str) -> Result<Acts, LineFault>
     match read_hex(alloc, hex) {
         Ok(bytes) => Ok(Acts::One(Act::Bytes {
             number,
-            piece: Piece::new(bytes),
+            piece: Received::new(bytes),
         })),
         Err(_) => Err(LineFault::Memory),
     }
 }
 
-/// The number of a connection, and hexadecimal digits that spell at least one byte. It takes no memory.
+/// Returns the number of a connection, and hexadecimal digits that spell at least one byte; `None` if they are malformed.
 fn piece_words(text: &str) -> Option<(u64, &str)>
     ensures { MatchOption result (spec.bytes_of (words text.now) ≡ None)
         (λ g. IsSome (bytes_in_hex g.1.now) × (spec.bytes_of (words text.now) ≡ spec.bytes_by (Some g.0) (bytes_in_hex g.1.now))) }
@@ -399,7 +396,7 @@ fn piece_words(text: &str) -> Option<(u64, &str)>
     }
 }
 
-/// The end of a connection.
+/// Parses the end of a connection.
 fn read_drop(text: &str) -> Result<Acts, LineFault>
     ensures { (channels : List Configuration) → IsRead channels (alone (spec.drop_of text.now)) result }
 {
@@ -409,7 +406,7 @@ fn read_drop(text: &str) -> Result<Acts, LineFault>
     }
 }
 
-/// A new channel, whose name no other has.
+/// Parses the settings of a new channel, whose name none of `declared` has.
 fn read_declaration(alloc: Global, declared: &Channels, line: &str) -> Result<Acts, LineFault>
     ensures { IsRead declared.now (alone (spec.declaration declared.now (settings_in line.now))) result }
 {
@@ -423,7 +420,7 @@ fn read_declaration(alloc: Global, declared: &Channels, line: &str) -> Result<Ac
     }
 }
 
-/// Whether a settings line names a channel that is declared. It takes no memory.
+/// Returns whether a settings line names a channel that is declared.
 fn is_declared(declared: &Channels, line: &str) -> bool
     ensures { (c : Configuration) → settings_in line.now ≡ Ok c → result ≡ is_some (channel_of_name declared.now 0 c.channel) }
 {
@@ -433,7 +430,7 @@ fn is_declared(declared: &Channels, line: &str) -> bool
     }
 }
 
-/// The second word of a line that has more; in a settings line it is the channel's name.
+/// Returns the second word of a line that has more words, which is the channel's name in a settings line.
 fn second_word(line: &str) -> Option<&str>
     ensures { (c : Configuration) → settings_in line.now ≡ Ok c → MatchOption result ⊥ (λ name. name.now ≡ c.channel) }
 {

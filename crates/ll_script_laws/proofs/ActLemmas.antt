@@ -25,7 +25,7 @@ use Rattle.ll_script.specs.declared.act.Act.TheVariants.{Declare, Offer, At, Ref
 use Rattle.ll_script_laws.proofs.ItemTexts.{IsRead, item-read}
 use Rattle.ll_script_laws.proofs.LineLemmas.{All, OfEach, acts-of}
 
--- what an act brings into a channel
+-- an act's settings are within their limits, and its item was read from a line
 abbrev pub IsSound : Act → Type 0
 IsSound (Declare settings) = IsWithin settings
 IsSound (Offer place item) = IsRead item
@@ -39,7 +39,7 @@ IsSound RefuseClock = Unit
 IsSound (Bytes n piece) = Unit
 IsSound (Drop n) = Unit
 
--- an item or a request for which no memory is found brings nothing
+-- an act stays sound if its item or request is out of memory
 pub starved-sound : (a : Act) → IsSound a → IsSound (starved a)
 starved-sound (Declare settings) s = s
 starved-sound (Offer place item) s = tt

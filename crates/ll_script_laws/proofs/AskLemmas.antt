@@ -1,4 +1,4 @@
--- A request of a connection is answered right at once, or it is one that waits; and a reply that is due is right for the request that waits for it.
+-- A request of a connection has the right answer at once, or it waits; and a reply that is due is right for the request that waits for it.
 use Rattle.std.proofs.Common.{◌≡◌, ℕ, ◌+◌, ◌≤◌, ◌==◌, ◌&&◌, List, [], ◌∷◌, ◌++◌, Bool, true, false, cond, Option, Some, None, refl, ap, ap₂, sym, ◌∙◌, subst, find, fold, length, option_map, slice_get, slice_set, append-nil, append_assoc, filter, arith}
 use Rattle.std.specs.Option.{option_or}
 use Rattle.std.proofs.lemmas.Option.{slice_get-map}
@@ -8,10 +8,10 @@ use Rattle.ll_connection.specs.Met.{waiting_of}
 use Rattle.ll_connection.specs.Visit as visit
 use Rattle.ll_connection.specs.Visit.{ask_in, asked, first_spoken}
 use Rattle.ll_directive.specs.Targets.{WantValue}
-use Rattle.ll_rooms.specs.Waits.{is_of, is_same, is_under, under, wait_of, without}
-use Rattle.ll_rooms.specs.declared.owner.Owner.{Owner}
-use Rattle.ll_rooms.specs.declared.owner.Owner.TheVariants.{Get, Connection}
-use Rattle.ll_rooms.specs.declared.wait.Wait.{Wait}
+use Rattle.ll_script_rooms.specs.Waits.{is_of, is_same, is_under, under, wait_of, without}
+use Rattle.ll_script_rooms.specs.declared.owner.Owner.{Owner}
+use Rattle.ll_script_rooms.specs.declared.owner.Owner.TheVariants.{Get, Connection}
+use Rattle.ll_script_rooms.specs.declared.wait.Wait.{Wait}
 use Rattle.ll_item.specs.Settings.{Configuration}
 use Rattle.ll_verdict.specs.Full.{is_full}
 use Rattle.ll_verdict.specs.Events.{Event, Publish, Ask, Collect, Close, Clock, asks, counted}
@@ -22,10 +22,10 @@ use Rattle.ll_verdict.proofs.ListLemmas.{Each, each-append, each-map}
 use Rattle.ll_wire.specs.declared.answer.Answer.{Answer}
 use Rattle.ll_wire.specs.declared.answer.Answer.TheVariants as player
 use Rattle.ll_verdict.specs.declared.fault.AskFault.TheVariants as out
-use Rattle.ll_rooms.specs.World.{Channel, World, all_settings, ask_at, asked_if, close, close_at, close_of, first_due, silent, with_event}
-use Rattle.ll_rooms.specs.World as rooms
-use Rattle.ll_rooms.proofs.SettingsLaws.{set_keeps}
-use Rattle.ll_rooms.proofs.TieLemmas.{equal, get_set, none_some, some_is, turn}
+use Rattle.ll_script_rooms.specs.World.{Channel, World, all_settings, ask_at, asked_if, close, close_at, close_of, first_due, silent, with_event}
+use Rattle.ll_script_rooms.specs.World as rooms
+use Rattle.ll_script_rooms.proofs.SettingsLaws.{set_keeps}
+use Rattle.ll_script_rooms.proofs.TieLemmas.{equal, get_set, none_some, some_is, turn}
 use Rattle.ll_script_laws.proofs.GrowLemmas.{Grows, event-grows, since}
 use Rattle.ll_script_laws.proofs.ReplyLemmas.{IsAsked, held_asked}
 use Rattle.ll_script_laws.specs.Verdicts.{Full, IsAnswer, IsNamed, Memory, Replied, Unknown, later_by, verdict}
@@ -192,7 +192,7 @@ module _ (n : ℕ) (want : WantValue) (w : World) where
   right_at f None e at same = absurd (none_some f.1 same)
   right_at f (Some c) e at same = right_if f.0 c (named_at f c e at same) (is_full (length c.events)) refl
 
-  -- no memory is found for it
+  -- it is out of memory
   lost_at : (f : ℕ × Configuration) (o : Option Channel) → channel_of_name (all_settings w) 0 want.channel ≡ Some f → slice_get w.channels f.0 ≡ o
       → option_map (λ (c : Channel). c.settings) o ≡ Some f.1 → IsAnswer w.channels want (player.Unavailable out.Memory)
   lost_at f None e at same = absurd (none_some f.1 same)

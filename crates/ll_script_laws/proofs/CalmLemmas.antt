@@ -1,4 +1,4 @@
--- Only an item and a reading of the clock make replies due, and a reply that is told is due no more.
+-- Only an item and a reading of the clock make replies due, and a reply that is handed out is due no more.
 use Rattle.std.proofs.Common.{◌≡◌, ℕ, ◌+◌, ◌*◌, ◌≤◌, ◌==◌, ◌&&◌, ◌||◌, List, [], ◌∷◌, ◌++◌, Bool, true, false, cond, not, Option, Some, None, is_none, is_some, refl, ap, ap₂, sym, ◌∙◌, subst, true≢false, filter, find, length, length-append, map, nat_le, option_and_then, option_map, if◌then◌else◌, arith}
 use Rattle.std.specs.List.{list_any}
 use Rattle.std.proofs.lemmas.Bool.Decides.{nat_tests}
@@ -17,10 +17,10 @@ use Rattle.ll_verdict.proofs.HintLemmas.{awaited-missing}
 use Rattle.ll_verdict.proofs.ListLemmas.{Each, each-append}
 use Rattle.ll_verdict.proofs.StateLemmas.{state-snoc}
 use Rattle.ll_verdict.proofs.StepLemmas.{along}
-use Rattle.ll_rooms.specs.World.{Channel, first_due, with_event}
-use Rattle.ll_rooms.proofs.DueLemmas.{first_is, reply_is}
-use Rattle.ll_rooms.proofs.TieLemmas.{none_some}
-use Rattle.ll_rooms.proofs.WaitLemmas.{due_told}
+use Rattle.ll_script_rooms.specs.World.{Channel, first_due, with_event}
+use Rattle.ll_script_rooms.proofs.DueLemmas.{first_is, reply_is}
+use Rattle.ll_script_rooms.proofs.TieLemmas.{none_some}
+use Rattle.ll_script_rooms.proofs.WaitLemmas.{due_told}
 
 -- ---- what has no reply yet has none at hand
 
@@ -74,7 +74,7 @@ module _ (c : Configuration) where
       along (λ es. Each (IsUnripe (items c es) (time es)) (state_of c es).slots) tt
       (λ es e h. subst (λ (st : State). Each (IsUnripe st.items st.time) st.slots) (sym (state-snoc c es e)) (next-unripe low (state_of c es) e)) es
 
--- ---- how many replies are there
+-- ---- the number of replies that are there
 
 abbrev ready : List Slot → ℕ
 ready ss = length (filter is_ready ss)
@@ -149,7 +149,7 @@ IsSilent (Collect ticket) = Unit
 IsSilent (Close ticket) = Unit
 IsSilent (Clock ms) = ⊥
 
--- no more replies of it than so many are there and not told
+-- at most `n` replies of the channel are there and not handed out
 pub record IsCalm (n : ℕ) (c : Channel) : Type 0 where
   pub low : 1 ≤ c.settings.target
   pub few : ready (state_of c.settings c.events).slots ≤ n
@@ -205,7 +205,7 @@ told-calm n c r due h = record {
   );
 }
 
--- where none is there, none is due
+-- if none is there, none is due
 pub calm-none : (c : Channel) → IsCalm 0 c → first_due c.settings c.events ≡ None
 calm-none c h = by (first_due c.settings c.events) refl
   where
@@ -214,7 +214,7 @@ calm-none c h = by (first_due c.settings c.events) refl
     by (Some r) e =
         absurd (omega (arith, one_fewer (now_settled c h.low) r.ticket (state_of c.settings c.events).slots (same_slots c h.low) (due-any c r e), h.few))
 
--- where none is due, none is there
+-- if none is due, none is there
 pub none-calm : (c : Channel) → 1 ≤ c.settings.target → first_due c.settings c.events ≡ None → IsCalm 0 c
 none-calm c low none = record {
   low = low;

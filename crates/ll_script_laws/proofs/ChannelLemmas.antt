@@ -1,8 +1,8 @@
 -- Each channel of a script has settings within their limits, and all that was published in it was read from a line.
 use Rattle.std.proofs.Common.{◌≡◌, ℕ, zero, suc, List, [], ◌∷◌, Bool, true, false, Option, Some, None, length, nat_lt, fold, subst, slice_get, slice_set, if◌then◌else◌}
 use Rattle.ll_directive.specs.Targets.{WantValue}
-use Rattle.ll_rooms.specs.declared.owner.Owner.{Owner}
-use Rattle.ll_rooms.specs.declared.owner.Owner.TheVariants.{Get, Connection}
+use Rattle.ll_script_rooms.specs.declared.owner.Owner.{Owner}
+use Rattle.ll_script_rooms.specs.declared.owner.Owner.TheVariants.{Get, Connection}
 use Rattle.ll_item.specs.Settings.{Configuration, IsWithin}
 use Rattle.ll_script.specs.Lines.{acts, starved}
 use Rattle.ll_script.specs.declared.act.Act.{Act}
@@ -11,11 +11,11 @@ use Rattle.ll_verdict.specs.Events as event
 use Rattle.ll_verdict.proofs.ListLemmas.{Each, each-append, each-at}
 use Rattle.ll_connection.proofs.RoomsLaws.{bytes-keeps, end-keeps, reply-keeps}
 use Rattle.ll_connection.specs.Visit.{Luck}
-use Rattle.ll_rooms.specs.World as rooms
-use Rattle.ll_rooms.proofs.EventLaws as events
-use Rattle.ll_rooms.proofs.TieLemmas.{some_is}
-use Rattle.ll_rooms.specs.declared.answer.ActAnswer as answer
-use Rattle.ll_rooms.specs.declared.answer.ActAnswer.TheVariants as said
+use Rattle.ll_script_rooms.specs.World as rooms
+use Rattle.ll_script_rooms.proofs.EventLaws as events
+use Rattle.ll_script_rooms.proofs.TieLemmas.{some_is}
+use Rattle.ll_script_rooms.specs.declared.answer.ActAnswer as answer
+use Rattle.ll_script_rooms.specs.declared.answer.ActAnswer.TheVariants as said
 use Rattle.ll_replay.specs.Stream.{come_to}
 use Rattle.ll_replay.specs.Script.{Ending, Lot, Marked, Script, act, acted, counted, done, done_as, heard, line, line_by, makes_due, passed_on, plain, read_by, rest, so_many, start, next_reply, with_lots}
 use Rattle.ll_script_laws.proofs.ActLemmas.{AreSound, IsSound, acts-sound, starved-sound}

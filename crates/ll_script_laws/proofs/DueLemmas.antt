@@ -1,4 +1,4 @@
--- A reply that is due finds who asked, at each moment of a script.
+-- A reply that is due finds its request and owner, at each moment of a script.
 use Rattle.std.proofs.Common.{◌≡◌, ℕ, ◌+◌, List, [], ◌∷◌, ◌++◌, Bool, true, false, Option, Some, None, is_some, refl, ap, sym, ◌∙◌, subst, subst₂, arith, fold, length, slice_get, if◌then◌else◌}
 use Rattle.ll_connection.specs.Met.{waiting_of, wants_out}
 use Rattle.ll_connection.specs.Turn as connection
@@ -7,22 +7,22 @@ use Rattle.ll_connection.specs.Visit.{Luck}
 use Rattle.ll_connection.proofs.CountLemmas.{count-less, count-more, is_its_own, own_ticket}
 use Rattle.ll_connection.proofs.MetLemmas.{AreMet, HasOut, bytes-met, end-met, few_out, has_out, reply-met}
 use Rattle.ll_session.specs.Talk.{SessionValue}
-use Rattle.ll_rooms.specs.Waits.{is_of, is_same, under, wait_of, without}
-use Rattle.ll_rooms.specs.declared.owner.Owner.{Owner}
-use Rattle.ll_rooms.specs.declared.owner.Owner.TheVariants.{Get, Connection}
-use Rattle.ll_rooms.specs.declared.wait.Wait.{Wait}
+use Rattle.ll_script_rooms.specs.Waits.{is_of, is_same, under, wait_of, without}
+use Rattle.ll_script_rooms.specs.declared.owner.Owner.{Owner}
+use Rattle.ll_script_rooms.specs.declared.owner.Owner.TheVariants.{Get, Connection}
+use Rattle.ll_script_rooms.specs.declared.wait.Wait.{Wait}
 use Rattle.ll_script.specs.declared.act.Act.{Act}
 use Rattle.ll_script.specs.declared.act.Act.TheVariants.{Declare, Offer, At, Refuse, Ask, Answer, Close, Clock, RefuseClock, Bytes, Drop}
 use Rattle.ll_verdict.specs.Events.{Collect, asks}
 use Rattle.ll_verdict.specs.Verdict.{Request, reply, reply_of, at_once, held}
 use Rattle.ll_verdict.specs.declared.reply.Reply.{Reply}
 use Rattle.ll_verdict.specs.declared.reply.Settled.{Settled}
-use Rattle.ll_rooms.specs.World as rooms
-use Rattle.ll_rooms.specs.World.{Channel, World, first_due, happens, next_reply_at, next_reply_of, told, told_to, waits_less}
-use Rattle.ll_rooms.specs.declared.answer.ActAnswer as answer
-use Rattle.ll_rooms.specs.declared.answer.ActAnswer.TheVariants as said
-use Rattle.ll_rooms.proofs.TieLemmas.{none_some, same_test, some_is}
-use Rattle.ll_rooms.proofs.WaitLemmas.{IsOpen, ask-open, clock-open, close-open, declare-open, due_waits, offer-open, opens, next_reply-open, due_told, once_each}
+use Rattle.ll_script_rooms.specs.World as rooms
+use Rattle.ll_script_rooms.specs.World.{Channel, World, first_due, happens, next_reply_at, next_reply_of, told, told_to, waits_less}
+use Rattle.ll_script_rooms.specs.declared.answer.ActAnswer as answer
+use Rattle.ll_script_rooms.specs.declared.answer.ActAnswer.TheVariants as said
+use Rattle.ll_script_rooms.proofs.TieLemmas.{none_some, same_test, some_is}
+use Rattle.ll_script_rooms.proofs.WaitLemmas.{IsOpen, ask-open, clock-open, close-open, declare-open, due_waits, offer-open, opens, next_reply-open, due_told, once_each}
 use Rattle.ll_replay.specs.Script.{Ending, Lot, Marked, Script, act, done, heard, passed_on, start, next_reply, turned}
 use Rattle.ll_replay.specs.Stream.{come_to}
 use Rattle.ll_directive.specs.Targets.{WantValue}
@@ -157,11 +157,11 @@ own_gone n all w i t x h e is = by (waiting_of n (without i t w.waits)) (session
     by k (Some None) e = omega (arith, e)
     by k (Some (Some s)) e = omega (arith, e, few_out s.out)
 
--- the rooms after a reply was told
+-- the rooms after a reply was handed out
 abbrev pub told_in : World → ℕ → Channel → Request → Wait → Settled → World
 told_in w place c r x s = waits_less (told (happens w place c (Collect r.ticket)) x.owner (Some s)) place r.ticket
 
--- what telling the first reply that is due at a place comes to
+-- what happens if the first reply that is due at a place is handed out
 pub data Ticks (w : World) (place : ℕ) (v : World) : Type 0 where
   Nothing : ((c : Channel) → slice_get w.channels place ≡ Some c → first_due c.settings c.events ≡ None) → v ≡ w → Ticks w place v
   Tells : (c : Channel) (r : Request) (x : Wait) (s : Settled) → slice_get w.channels place ≡ Some c → first_due c.settings c.events ≡ Some r

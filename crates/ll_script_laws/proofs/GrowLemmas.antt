@@ -11,9 +11,9 @@ use Rattle.ll_verdict.specs.declared.reply.Settled.{Settled}
 use Rattle.ll_verdict.specs.declared.wanted.Wanted.{Wanted}
 use Rattle.ll_verdict.proofs.LawProofs.{one_verdict}
 use Rattle.ll_wire.specs.declared.answer.Answer.{Answer}
-use Rattle.ll_rooms.specs.World.{Channel, with_event}
-use Rattle.ll_rooms.proofs.SettingsLaws.{set_keeps}
-use Rattle.ll_rooms.proofs.TieLemmas.{equal, get_other, get_set, none_some, some_is}
+use Rattle.ll_script_rooms.specs.World.{Channel, with_event}
+use Rattle.ll_script_rooms.proofs.SettingsLaws.{set_keeps}
+use Rattle.ll_script_rooms.proofs.TieLemmas.{equal, get_other, get_set, none_some, some_is}
 use Rattle.ll_script_laws.specs.Verdicts.{AreAnswered, Full, IsAnswer, IsNamed, Memory, Replied, Unknown, later_by, settings_of, verdict}
 
 abbrev pub grown : Channel → List Event → Channel

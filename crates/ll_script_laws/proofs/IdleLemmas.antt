@@ -1,4 +1,4 @@
--- No request of a connection is left lying: where its session is open and has no want out, its unread bytes hold none.
+-- No request of a connection is left over: if its session is open and has no want out, its unread bytes hold none.
 use Rattle.std.proofs.Common.{◌≡◌, ◌⊎◌, inl, inr, ℕ, zero, suc, ◌+◌, ◌≤◌, ◌==◌, List, [], ◌∷◌, Bool, true, false, Option, Some, None, refl, ap, sym, ◌∙◌, subst, fold, length, arith, if◌then◌else◌}
 use Rattle.ll_connection.specs.Turn as connection
 use Rattle.ll_connection.specs.Turn.{Connections, left, session_of, with_session}
@@ -7,7 +7,7 @@ use Rattle.ll_connection.proofs.MetLemmas.{pulled_none}
 use Rattle.ll_connection.proofs.StepLemmas.{hand_all-is, shrinks, still}
 use Rattle.ll_connection.proofs.TurnLemmas.{found, kept_other}
 use Rattle.ll_directive.specs.Targets.{WantValue}
-use Rattle.ll_rooms.specs.declared.owner.Owner.TheVariants.{Get, Connection}
+use Rattle.ll_script_rooms.specs.declared.owner.Owner.TheVariants.{Get, Connection}
 use Rattle.ll_script.specs.declared.act.Act.{Act}
 use Rattle.ll_script.specs.declared.act.Act.TheVariants.{Bytes, Drop}
 use Rattle.ll_session.specs.Requests.{requests}
@@ -15,11 +15,11 @@ use Rattle.ll_session.specs.Talk.{SessionValue, fresh, next_want, pulled}
 use Rattle.ll_session.proofs.SplitLemmas.{none_is_left}
 use Rattle.ll_verdict.specs.declared.reply.Reply.{Reply}
 use Rattle.ll_wire.specs.declared.answer.Answer.TheVariants as player
-use Rattle.ll_rooms.specs.World as rooms
-use Rattle.ll_rooms.specs.World.{World, repeat}
-use Rattle.ll_rooms.specs.declared.answer.ActAnswer as answer
-use Rattle.ll_rooms.specs.declared.answer.ActAnswer.TheVariants as said
-use Rattle.ll_rooms.proofs.TieLemmas.{equal, none_some, some_is}
+use Rattle.ll_script_rooms.specs.World as rooms
+use Rattle.ll_script_rooms.specs.World.{World, repeat}
+use Rattle.ll_script_rooms.specs.declared.answer.ActAnswer as answer
+use Rattle.ll_script_rooms.specs.declared.answer.ActAnswer.TheVariants as said
+use Rattle.ll_script_rooms.proofs.TieLemmas.{equal, none_some, some_is}
 use Rattle.ll_replay.specs.Script.{Script, act, heard, passed_on, start, turned}
 use Rattle.ll_script_laws.proofs.ScriptLemmas.{done-keeps, lines-keep}
 use Rattle.ll_script_laws.proofs.ServeLemmas.{pulled_on}
@@ -68,7 +68,7 @@ module _ (n : ℕ) where
       by (inl d) = d.idle
       by (inr h) = λ on out. no_bytes (repeat (step enough n) (length v.session.unread) v).session.unread (omega (arith, h))
 
-  -- whatever memory is found at first, it is found in the end
+  -- with any lucks at first, as the last steps have memory for everything
   pub in-idle : (lucks : List Luck) (v : Visit) → IsIdle (submit lucks n v).session
   in-idle lucks v = handed-idle (fold (λ u luck. step luck n u) v lucks)
 

@@ -1,4 +1,4 @@
--- What a channel has accepted of items that were read may stand one after another, so the law on texts speaks of its playlists.
+-- The items that a channel has accepted are allowed one after another, so the law on texts applies to its playlists.
 use Rattle.std.proofs.Common.{◌≡◌, ◌≢◌, ℕ, ◌+◌, ◌≤◌, ◌||◌, List, [], ◌∷◌, ◌++◌, Bool, true, false, Option, Some, None, is_none, Ok, fold, refl, ap, sym, subst, ◌∙◌, append_assoc, append-nil, if◌then◌else◌}
 use Rattle.std.proofs.lemmas.List.Sums.{fold-append}
 use Rattle.ll_apply.specs.Texts.{applied_text}

@@ -1,12 +1,12 @@
--- After each act, and so after each line, no reply is due: all were told.
+-- After each act, and so after each line, no reply is due: all were handed out.
 use Rattle.std.proofs.Common.{◌≡◌, ℕ, zero, suc, ◌+◌, ◌≤◌, ◌==◌, ◌||◌, List, [], ◌∷◌, ◌++◌, Bool, true, false, cond, Option, Some, None, is_some, refl, ap, sym, ◌∙◌, subst, filter, fold, length, map, nat_lt, slice_get, slice_set, arith, if◌then◌else◌}
 use Rattle.ll_verdict.specs.Waiting.{is_ready, ticket_in}
 use Rattle.ll_connection.proofs.RoomsLaws.{bytes-keeps, end-keeps, reply-keeps}
 use Rattle.ll_connection.specs.Visit.{Luck}
 use Rattle.ll_directive.specs.Targets.{WantValue}
-use Rattle.ll_rooms.specs.declared.owner.Owner.{Owner}
-use Rattle.ll_rooms.specs.declared.owner.Owner.TheVariants.{Get, Connection}
-use Rattle.ll_rooms.specs.declared.wait.Wait.{Wait}
+use Rattle.ll_script_rooms.specs.declared.owner.Owner.{Owner}
+use Rattle.ll_script_rooms.specs.declared.owner.Owner.TheVariants.{Get, Connection}
+use Rattle.ll_script_rooms.specs.declared.wait.Wait.{Wait}
 use Rattle.ll_item.specs.Settings.{Configuration}
 use Rattle.ll_item.specs.declared.item.Item.{Item}
 use Rattle.ll_verdict.specs.Full.{refusal_after}
@@ -22,14 +22,14 @@ use Rattle.ll_verdict.specs.declared.entry.Slot.{Slot}
 use Rattle.ll_rendition.specs.declared.fault.PublishFault.{PublishFault}
 use Rattle.ll_verdict.specs.declared.reply.Reply.{Reply}
 use Rattle.ll_verdict.proofs.ListLemmas.{Each, each-append}
-use Rattle.ll_rooms.specs.Kept.{is_in, ticket_of, tickets_at}
-use Rattle.ll_rooms.specs.World as rooms
-use Rattle.ll_rooms.specs.World.{Channel, World, all_settings, silent, with_event}
-use Rattle.ll_rooms.specs.declared.answer.ActAnswer as answer
-use Rattle.ll_rooms.specs.declared.answer.ActAnswer.TheVariants as said
-use Rattle.ll_rooms.proofs.EventLaws as events
-use Rattle.ll_rooms.proofs.TieLemmas.{equal, get_other, get_set, none_some, same_test, some_is}
-use Rattle.ll_rooms.proofs.WaitLemmas.{IsOpen, opens}
+use Rattle.ll_script_rooms.specs.Kept.{is_in, ticket_of, tickets_at}
+use Rattle.ll_script_rooms.specs.World as rooms
+use Rattle.ll_script_rooms.specs.World.{Channel, World, all_settings, silent, with_event}
+use Rattle.ll_script_rooms.specs.declared.answer.ActAnswer as answer
+use Rattle.ll_script_rooms.specs.declared.answer.ActAnswer.TheVariants as said
+use Rattle.ll_script_rooms.proofs.EventLaws as events
+use Rattle.ll_script_rooms.proofs.TieLemmas.{equal, get_other, get_set, none_some, same_test, some_is}
+use Rattle.ll_script_rooms.proofs.WaitLemmas.{IsOpen, opens}
 use Rattle.ll_replay.specs.Script.{Lot, Marked, Script, act, done, done_as, heard, line, passed_on, passed_to, rest_at, so_many, start, next_reply}
 use Rattle.ll_script_laws.proofs.ActLemmas.{AreSound, IsSound, acts-sound, starved-sound}
 use Rattle.ll_script_laws.proofs.CalmLemmas.{IsCalm, IsSilent, calm-none, none-calm, silent-calm, told-calm}
@@ -38,7 +38,7 @@ use Rattle.ll_script_laws.proofs.ScriptLemmas.{lines-keep}
 use Rattle.ll_script_laws.specs.Laws.{NoneLeftLaw}
 use Rattle.ll_script_laws.specs.Talks.{acts_in, acts_of, listed}
 
--- at each place no more replies are there and not told than so many
+-- at each place at most `most place` replies are there and not handed out
 abbrev AreCalm : (ℕ → ℕ) → List Channel → Type 0
 AreCalm most cs = (place : ℕ) (c : Channel) → slice_get cs place ≡ Some c → IsCalm (most place) c
 
@@ -77,7 +77,7 @@ module _ (most : ℕ → ℕ) where
   passed lucks w (Get id) a h = h
   passed lucks w (Connection n) a h = reply-keeps (λ v. AreCalm most v.channels) asks closes lucks n a w.connections w.rooms h
 
--- ---- replies that are due are told
+-- ---- replies that are due are handed out
 
 swap : (place j k l : ℕ) → (j == place) ≡ false → at_most place k j ≡ at_most place l j
 swap place j k l f = ap (λ b. if b then k else 0) f ∙ sym (ap (λ b. if b then l else 0) f)

@@ -3,8 +3,8 @@ use Rattle.std.proofs.Common.{◌≡◌, ℕ, zero, suc, ◌<◌, ◌≤◌, Lis
 use Rattle.ll_verdict.specs.Waiting.{IsRising, is_ready, ticket_in}
 use Rattle.ll_verdict.specs.State.{state_of}
 use Rattle.ll_verdict.specs.declared.entry.Slot.{Slot}
-use Rattle.ll_rooms.proofs.TieLemmas.{none_some, some_is}
-use Rattle.ll_rooms.proofs.WaitLemmas.{ordered}
+use Rattle.ll_script_rooms.proofs.TieLemmas.{none_some, some_is}
+use Rattle.ll_script_rooms.proofs.WaitLemmas.{ordered}
 use Rattle.ll_script_laws.specs.Laws.{LeastReadyLaw, OpenOrderLaw}
 
 above : (low : ℕ) (ss : List Slot) (i : ℕ) (s : Slot) → IsRising low ss → slice_get ss i ≡ Some s → low < s.entry.ticket

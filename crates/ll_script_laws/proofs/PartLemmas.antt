@@ -1,4 +1,4 @@
--- What the parts of a turn, and what the rooms say, come to as text and as what is sent on each connection.
+-- The parts of a turn and of the rooms' answers: their text, and what of it is sent on each connection.
 use Rattle.std.proofs.Common.{◌≡◌, ℕ, ◌==◌, List, [], ◌∷◌, ◌++◌, Bool, true, false, refl, ap, ap₂, ◌∙◌, map, append-nil}
 use Rattle.std.specs.Prelude.{flat_map, if◌then◌else◌}
 use Rattle.std.specs.List.{concat}
@@ -6,7 +6,7 @@ use Rattle.std.proofs.lemmas.Grind.{flat_map-append}
 use Rattle.ll_connection.specs.Turn.{shut_text}
 use Rattle.ll_replay.specs.Script.{spelled}
 use Rattle.ll_script.specs.Answers.{sent_line}
-use Rattle.ll_rooms.specs.declared.answer.ActAnswer as answer
+use Rattle.ll_script_rooms.specs.declared.answer.ActAnswer as answer
 use Rattle.ll_script_laws.specs.Talks.{Part, Said, Sent, Shut, part_text, sent_by}
 
 -- the answers of a turn, and whether the connection has shut

@@ -1,4 +1,4 @@
--- Two scripts of which one brings in one line what the other brings in two.
+-- Two scripts, of which one has in one line the bytes that the other has in two.
 use Rattle.std.proofs.Common.{◌≡◌, ℕ, ◌+◌, ◌≤◌, List, [], ◌∷◌, ◌++◌, Bool, true, false, Option, Some, None, refl, ap, ap₂, sym, ◌∙◌, append_assoc, arith, fold, length, nat_lt, slice_get, option_map, if◌then◌else◌}
 use Rattle.std.proofs.lemmas.List.Sums.{fold-append}
 use Rattle.ll_connection.specs.Laws.{both}
@@ -6,24 +6,24 @@ use Rattle.ll_connection.specs.Turn.{Turn, bytes}
 use Rattle.ll_connection.specs.Visit.{Luck}
 use Rattle.ll_connection.proofs.CutLemmas.{turns}
 use Rattle.ll_connection.proofs.RoomsLaws as laws
-use Rattle.ll_rooms.specs.Waits.{wait_of}
-use Rattle.ll_rooms.specs.declared.owner.Owner.{Owner}
-use Rattle.ll_rooms.specs.declared.owner.Owner.TheVariants.{Get, Connection}
-use Rattle.ll_rooms.specs.declared.wait.Wait.{Wait}
+use Rattle.ll_script_rooms.specs.Waits.{wait_of}
+use Rattle.ll_script_rooms.specs.declared.owner.Owner.{Owner}
+use Rattle.ll_script_rooms.specs.declared.owner.Owner.TheVariants.{Get, Connection}
+use Rattle.ll_script_rooms.specs.declared.wait.Wait.{Wait}
 use Rattle.ll_script.specs.Lines.{acts, starved}
 use Rattle.ll_script.specs.declared.act.Act.{Act}
 use Rattle.ll_script.specs.declared.act.Act.TheVariants.{Declare, Offer, At, Refuse, Ask, Answer, Close, Clock, RefuseClock, Bytes, Drop}
-use Rattle.ll_rooms.specs.World as rooms
-use Rattle.ll_rooms.specs.World.{all_settings, silent}
-use Rattle.ll_rooms.specs.declared.answer.ActAnswer as answer
-use Rattle.ll_rooms.specs.declared.answer.ActAnswer.TheVariants as said
+use Rattle.ll_script_rooms.specs.World as rooms
+use Rattle.ll_script_rooms.specs.World.{all_settings, silent}
+use Rattle.ll_script_rooms.specs.declared.answer.ActAnswer as answer
+use Rattle.ll_script_rooms.specs.declared.answer.ActAnswer.TheVariants as said
 use Rattle.ll_replay.specs.Stream.{come_to}
 use Rattle.ll_replay.specs.Script.{Ending, Lot, Marked, Script, act, acted, counted, done, done_as, heard, line, line_by, makes_due, passed_on, read_by, rest, so_many, start, next_reply, turned, unmarked, with_lots}
 use Rattle.ll_replay.proofs.ScriptLaws.{line-ended, line-means}
 use Rattle.ll_script_laws.proofs.ShiftLemmas.{later_by, lines-shifted, shifted}
 use Rattle.ll_script_laws.specs.Laws.{Brings}
 
--- ---- what is answered is heard
+-- ---- answers are taken
 
 abbrev IsQuiet : Script → Type 0
 IsQuiet w = w.rooms.answers ≡ []
@@ -111,7 +111,7 @@ bytes-quiet n piece w q =
 
 module _ (n : ℕ) (a b first second whole : List ℕ) (is_first : Brings n a first) (is_second : Brings n b second) (is_whole : Brings n (a ++ b) whole)
     (fits_first : length first ≤ 65536) (fits_second : length second ≤ 65536) (fits_whole : length whole ≤ 65536) where
-  -- the lines, for which all memory is found
+  -- the lines, with memory for everything
   abbrev all_of : Marked
   all_of = unmarked whole
 
@@ -121,7 +121,7 @@ module _ (n : ℕ) (a b first second whole : List ℕ) (is_first : Brings n a fi
   abbrev two : Marked
   two = unmarked second
 
-  -- what a line makes of a world that goes on
+  -- how such a line changes a script that goes on
   brings : (piece text : List ℕ) → Brings n piece text → length text ≤ 65536 → (w : Script) → w.ending ≡ None
       → line w (unmarked text) ≡ turned (counted w) (bytes [] n piece w.connections w.rooms)
   brings piece text is fits w goes_on = line-means w (unmarked text) (Some (Bytes n piece ∷ [])) goes_on fits (is (all_settings w.rooms) w.last_id)

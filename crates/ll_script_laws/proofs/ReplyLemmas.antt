@@ -1,4 +1,4 @@
--- What a request gets is the playlist that it wants, of its own moment or of a later one.
+-- What a request gets is the playlist that it asks for, of its own moment or of a later one.
 use Rattle.std.proofs.Common.{◌≡◌, ℕ, ◌+◌, ◌<◌, ◌&&◌, ◌||◌, List, [], ◌∷◌, ◌++◌, Bool, true, false, Option, Some, None, length, length-append, refl, ap, sym, subst, ◌∙◌, append-nil, append_assoc, arith, bytes_eq, not, nat_lt, if◌then◌else◌, option_map, option_and_then}
 use Rattle.std.proofs.lemmas.Bool.Decides.{nat_tests}
 use Rattle.std.proofs.lemmas.List.Quantifiers.{position-Some}
@@ -104,7 +104,7 @@ pub held_asked : (c : Configuration) (es : List Event) → Each (IsAsked c es) (
 held_asked c es = along (λ es. Each (IsAsked c es) (held c es)) tt
     (λ es e h. subst (Each (IsAsked c (es ++ e ∷ []))) (sym (held-snoc c es e)) (hold_asked c es e (held c es) h)) es
 
--- a front that is longer than what stands before an event has that event
+-- a prefix that is longer than what stands before an event has that event
 front-has : (before front : List Event) (e : Event) (rest later : List Event) → before ++ e ∷ rest ≡ front ++ later → length before < length front
     → (between : List Event) × (front ≡ before ++ e ∷ between)
 front-has before [] e rest later h lt = absurd (omega arith)

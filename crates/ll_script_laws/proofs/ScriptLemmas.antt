@@ -1,13 +1,13 @@
--- What each act and each reply that is passed on keep holds after the lines of every script, whatever memory is found.
+-- What each act and each reply that is passed on preserve holds after the lines of every script, with any lots.
 use Rattle.std.proofs.Common.{ℕ, ◌+◌, ◌||◌, List, [], ◌∷◌, ◌++◌, Bool, true, false, Option, Some, None, is_some, sym, subst, fold, length, nat_lt, append-nil, append_assoc, if◌then◌else◌}
 use Rattle.ll_connection.specs.Visit.{Luck}
 use Rattle.ll_script.specs.Lines.{acts, starved}
 use Rattle.ll_script.specs.declared.act.Act.{Act}
-use Rattle.ll_rooms.specs.World.{all_settings}
+use Rattle.ll_script_rooms.specs.World.{all_settings}
 use Rattle.ll_replay.specs.Script.{BadLine, Ending, LineTooLong, Lot, Marked, Script, act, acted, counted, done, done_as, line, line_by, makes_due, plain, read_by, rest, so_many, next_reply, with_lots}
 use Rattle.ll_script_laws.specs.Talks.{acts_in, acts_of, listed}
 
--- It may speak of all acts so far. One for which no memory is found is among them: what it comes to then keeps it too.
+-- `P` can be about all acts so far. An act that is out of memory is among them: what it becomes then preserves `P` too.
 module _ (P : List Act → Script → Type 0)
     (act-keeps : (list : List Act) (lucks : List Luck) (w : Script) (a : Act) → P list w → P (list ++ a ∷ []) (act lucks w a))
     (next_reply-keeps : (list : List Act) (place : ℕ) (w : Script) (lucks : List Luck) → P list w → P list (next_reply place w lucks))

@@ -1,4 +1,4 @@
--- Whatever comes to a connection, each of its requests is answered right, or it is the one that waits.
+-- Whatever comes to a connection, each of its requests has the right answer, or it is the one that waits.
 use Rattle.std.proofs.Common.{◌≡◌, ℕ, ◌≤◌, ◌==◌, List, [], ◌∷◌, ◌++◌, Bool, true, false, Option, Some, None, refl, ap, sym, ◌∙◌, subst, true≢false, length, slice_get, slice_set, append-nil, arith, if◌then◌else◌}
 use Rattle.std.proofs.lemmas.Bool.Decides.{nat_tests}
 use Rattle.std.proofs.lemmas.Grind.{flat_map-append}
@@ -8,9 +8,9 @@ use Rattle.ll_connection.proofs.MetLemmas.{IsMet, given_none, given_out, pulled_
 use Rattle.ll_connection.proofs.RoomsLaws.{asked-keeps}
 use Rattle.ll_connection.proofs.TalkLemmas.{ends}
 use Rattle.ll_directive.specs.Targets.{WantValue}
-use Rattle.ll_rooms.specs.declared.owner.Owner.{Owner}
-use Rattle.ll_rooms.specs.declared.owner.Owner.TheVariants.{Get, Connection}
-use Rattle.ll_rooms.specs.declared.wait.Wait.{Wait}
+use Rattle.ll_script_rooms.specs.declared.owner.Owner.{Owner}
+use Rattle.ll_script_rooms.specs.declared.owner.Owner.TheVariants.{Get, Connection}
+use Rattle.ll_script_rooms.specs.declared.wait.Wait.{Wait}
 use Rattle.ll_item.specs.declared.item.Item.{Item}
 use Rattle.ll_session.specs.Past.{Feed, Mute, Next, Past, Reply, called, next_by, next_entries, overflows, reply_by}
 use Rattle.ll_session.specs.Requests.{Entry, Faulty, Refused, Wanted}
@@ -19,9 +19,9 @@ use Rattle.ll_session.proofs.SplitLemmas.{taking-right, wants}
 use Rattle.ll_verdict.specs.Events.{Event}
 use Rattle.ll_verdict.proofs.ListLemmas.{each-append, each-map}
 use Rattle.ll_wire.specs.declared.answer.Answer.{Answer}
-use Rattle.ll_rooms.specs.World.{Channel, World, ask, clock, close, offer, silent, with_event}
-use Rattle.ll_rooms.proofs.EventLaws as events
-use Rattle.ll_rooms.proofs.TieLemmas.{equal, same_test}
+use Rattle.ll_script_rooms.specs.World.{Channel, World, ask, clock, close, offer, silent, with_event}
+use Rattle.ll_script_rooms.proofs.EventLaws as events
+use Rattle.ll_script_rooms.proofs.TieLemmas.{equal, same_test}
 use Rattle.ll_script_laws.proofs.AskLemmas.{AreAsked, AskedBy, IsRight, asked-closes, asked-others, asked-right, asked-stays}
 use Rattle.ll_script_laws.proofs.GrowLemmas.{Grows, answers-more, answers-stay, event-grows, grows-on, grows-same, wants-more}
 use Rattle.ll_script_laws.specs.Verdicts.{AreAnswered, IsAnswer, want_of, wants_of}
@@ -180,7 +180,7 @@ module _ (n : ℕ) (others : ℕ → List WantValue) (old : List Channel) where
         count = λ on. ap outs (sym (replied_none q.session a)) ∙ ap (λ (s : SessionValue). outs s.out) (sym t.0);
       }
 
-  -- it ends where no memory is found, and nothing more of it is answered
+  -- the session shuts if it is out of memory, and nothing more of it is answered
   pub mute-serves : (w : World) (q : Past) → Serving w q → Serving w (called q Mute)
   mute-serves w q s =
       record { unanswered = s.unanswered; grows = s.grows; answered = s.answered; asked = s.asked; few = s.few; count = λ on. absurd (true≢false on) }

@@ -1,15 +1,15 @@
--- What was written, and how many lines were read, changes nothing of what comes to the channels and connections.
+-- The text so far, and the number of lines so far, change nothing of what happens to channels and connections.
 use Rattle.std.proofs.Common.{◌≡◌, ℕ, ◌+◌, List, [], ◌∷◌, ◌++◌, Bool, true, false, Option, Some, None, refl, ap, ◌∙◌, append_assoc, arith, fold, length, nat_lt, option_map, if◌then◌else◌}
 use Rattle.std.specs.Prelude.{flat_map}
 use Rattle.ll_connection.specs.Turn as connection
 use Rattle.ll_connection.specs.Turn.{Turn}
 use Rattle.ll_connection.specs.Visit.{Luck}
 use Rattle.ll_replay.specs.Script.{BadLine, Ending, LineTooLong, Lot, Marked, Script, act, acted, counted, done, done_as, heard, line, line_by, makes_due, next_reply, passed_on, read_by, rest, says, so_many, spelled, standing_text, turned, with_lots}
-use Rattle.ll_rooms.specs.World as rooms
-use Rattle.ll_rooms.specs.World.{all_settings}
-use Rattle.ll_rooms.specs.declared.answer.ActAnswer as answer
-use Rattle.ll_rooms.specs.declared.answer.ActAnswer.TheVariants as said
-use Rattle.ll_rooms.specs.declared.owner.Owner.TheVariants.{Get, Connection}
+use Rattle.ll_script_rooms.specs.World as rooms
+use Rattle.ll_script_rooms.specs.World.{all_settings}
+use Rattle.ll_script_rooms.specs.declared.answer.ActAnswer as answer
+use Rattle.ll_script_rooms.specs.declared.answer.ActAnswer.TheVariants as said
+use Rattle.ll_script_rooms.specs.declared.owner.Owner.TheVariants.{Get, Connection}
 use Rattle.ll_script.specs.Lines.{acts, starved}
 use Rattle.ll_script.specs.declared.act.Act.{Act}
 use Rattle.ll_script.specs.declared.act.Act.TheVariants.{Declare, Offer, At, Refuse, Ask, Answer, Close, Clock, RefuseClock, Bytes, Drop}

@@ -20,9 +20,9 @@ use Rattle.ll_publish.specs.declared.refusal.Refusal.TheVariants as refused
 use Rattle.ll_replay.proofs.ScriptLaws.{line-means}
 use Rattle.ll_replay.specs.Script.{BadLine, Ending, LineTooLong, Lot, Marked, Script, acted, counted, done_as, line, says, standing_text, start}
 use Rattle.ll_replay.specs.Stream.{come_to}
-use Rattle.ll_rooms.specs.World as rooms
-use Rattle.ll_rooms.specs.World.{Channel, all_settings, standing_at}
-use Rattle.ll_rooms.proofs.TieLemmas.{none_some, some_is}
+use Rattle.ll_script_rooms.specs.World as rooms
+use Rattle.ll_script_rooms.specs.World.{Channel, all_settings, standing_at}
+use Rattle.ll_script_rooms.proofs.TieLemmas.{none_some, some_is}
 use Rattle.ll_script.specs.Lines.{acts, at_by, at_in, item_act, offer_by, offer_to, offer_within, starved, without_bytes}
 use Rattle.ll_script.specs.declared.act.Act.{Act}
 use Rattle.ll_script.specs.declared.act.Act.TheVariants.{At, Refuse}

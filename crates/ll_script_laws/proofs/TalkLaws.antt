@@ -5,15 +5,15 @@ use Rattle.std.specs.List.{concat}
 use Rattle.std.proofs.lemmas.Grind.{flat_map-append}
 use Rattle.ll_connection.specs.Visit.{Luck}
 use Rattle.ll_directive.specs.Targets.{WantValue}
-use Rattle.ll_rooms.specs.declared.owner.Owner.TheVariants.{Get}
+use Rattle.ll_script_rooms.specs.declared.owner.Owner.TheVariants.{Get}
 use Rattle.ll_script.specs.Lines.{starved}
 use Rattle.ll_script.specs.declared.act.Act.{Act}
 use Rattle.ll_script.specs.declared.act.Act.TheVariants.{Declare, Offer, At, Refuse, Ask, Answer, Close, Clock, RefuseClock, Bytes, Drop}
 use Rattle.ll_session.proofs.PastLemmas.{is_talk}
 use Rattle.ll_session.specs.Past.{conversation, past}
 use Rattle.ll_verdict.specs.declared.standing.Standing.{Standing}
-use Rattle.ll_rooms.specs.World as rooms
-use Rattle.ll_rooms.specs.World.{World}
+use Rattle.ll_script_rooms.specs.World as rooms
+use Rattle.ll_script_rooms.specs.World.{World}
 use Rattle.ll_replay.specs.Script.{Ending, Script, act, heard, standing_text, start, next_reply}
 use Rattle.ll_script_laws.proofs.AskLemmas.{AreAsked, ask-asked, asked-closes, asked-stays}
 use Rattle.ll_script_laws.proofs.DueLemmas as due
@@ -36,7 +36,7 @@ module _ (came : ℕ → List ℕ) (un : ℕ → List WantValue) (lucks : List L
   same_waits : (v : World) → v.waits ≡ w.rooms.waits → Grows w.rooms.channels v.channels → AreAsked un v.channels v.waits
   same_waits v same g = subst (AreAsked un v.channels) (sym same) (asked-stays un w.rooms.channels v.channels w.rooms.waits g h.asked)
 
-  -- where a rendition stands is told, if it was found
+  -- the answer that says where a rendition stands, if it was found
   told : (o : Option Standing) (v : Script) → v.connections ≡ w.connections → v.rooms ≡ w.rooms → v.text ≡ w.text ++ standing_text o → Holds came un v
   told None v same rooms text =
       adds came un w v [] h same text (λ m. refl) (subst (λ (r : World). Grows w.rooms.channels r.channels) (sym rooms) (grows-same w.rooms.channels))
@@ -81,7 +81,7 @@ so_far list n = flat_map (brought_by n) list
 abbrev Always : List Act → Script → Type 0
 Always list w = due.Holds w × HoldsSome (so_far list) w
 
--- with one more act, which brings these bytes on each connection
+-- the bytes that came on each connection with one more act
 with_one : (list : List Act) (a : Act) (n : ℕ) → so_far (list ++ a ∷ []) n ≡ after_act a (so_far list) n
 with_one list a n = flat_map-append (brought_by n) list (a ∷ []) ∙ ap (λ l. so_far list n ++ l) (append-nil (brought_by n a))
 
@@ -90,7 +90,7 @@ one_more list lucks w a h =
     let k = act-holds (so_far list) h.1.0 lucks w h.0 h.1.1 a in
     (due.act-holds lucks w a h.0, (k.0, nothing_more (after_act a (so_far list)) (so_far (list ++ a ∷ [])) k.0 (act lucks w a) (with_one list a) k.1))
 
--- where no memory is found for an act, the same bytes came
+-- if an act is out of memory, the same bytes came
 brings_same : (n : ℕ) (a : Act) → brought_by n a ≡ brought_by n (starved a)
 brings_same n (Declare settings) = refl
 brings_same n (Offer place item) = refl

@@ -12,10 +12,10 @@ use Rattle.ll_connection.proofs.MetLemmas.{HasOut, IsMet, came-met, replied_out}
 use Rattle.ll_connection.proofs.TalkLemmas.{Talked, answer_call, bytes-talked, put, reply-talked}
 use Rattle.ll_connection.proofs.TurnLemmas.{found, kept_other}
 use Rattle.ll_directive.specs.Targets.{WantValue}
-use Rattle.ll_rooms.specs.Waits.{is_same, under}
-use Rattle.ll_rooms.specs.declared.owner.Owner.{Owner}
-use Rattle.ll_rooms.specs.declared.owner.Owner.TheVariants.{Get, Connection}
-use Rattle.ll_rooms.specs.declared.wait.Wait.{Wait}
+use Rattle.ll_script_rooms.specs.Waits.{is_same, under}
+use Rattle.ll_script_rooms.specs.declared.owner.Owner.{Owner}
+use Rattle.ll_script_rooms.specs.declared.owner.Owner.TheVariants.{Get, Connection}
+use Rattle.ll_script_rooms.specs.declared.wait.Wait.{Wait}
 use Rattle.ll_session.specs.Past.{Past, Send, before_any, called, past}
 use Rattle.ll_session.specs.Talk.{SessionValue, fresh}
 use Rattle.ll_verdict.specs.Events.{Collect}
@@ -24,12 +24,12 @@ use Rattle.ll_verdict.specs.declared.reply.Reply as verdict
 use Rattle.ll_verdict.specs.declared.reply.Settled.{Settled}
 use Rattle.ll_wire.specs.declared.answer.Answer.{Answer}
 use Rattle.ll_wire.specs.declared.answer.Answer.TheVariants as player
-use Rattle.ll_rooms.specs.World as rooms
-use Rattle.ll_rooms.specs.World.{Channel, World, first_due}
-use Rattle.ll_rooms.specs.declared.answer.ActAnswer as answer
-use Rattle.ll_rooms.specs.declared.answer.ActAnswer.TheVariants as said
-use Rattle.ll_rooms.proofs.TieLemmas.{equal, same_test}
-use Rattle.ll_rooms.proofs.WaitLemmas.{IsOpen, next_reply-open}
+use Rattle.ll_script_rooms.specs.World as rooms
+use Rattle.ll_script_rooms.specs.World.{Channel, World, first_due}
+use Rattle.ll_script_rooms.specs.declared.answer.ActAnswer as answer
+use Rattle.ll_script_rooms.specs.declared.answer.ActAnswer.TheVariants as said
+use Rattle.ll_script_rooms.proofs.TieLemmas.{equal, same_test}
+use Rattle.ll_script_rooms.proofs.WaitLemmas.{IsOpen, next_reply-open}
 use Rattle.ll_replay.specs.Script.{Script, heard, passed_on, passed_to, next_reply, turned}
 use Rattle.ll_script_laws.proofs.AskLemmas.{AreAsked, AskedBy, asked-at, asked-closes, asked-less, asked-stays, due-right}
 use Rattle.ll_script_laws.proofs.DueLemmas as due
@@ -279,7 +279,7 @@ end-holds n came un w h = by (session_of n w.connections)
 
 -- ---- a reply is due
 
--- a reply was told to a connection, which still has the request out that it answers
+-- a reply was handed out to a connection, which still has out the request that it answers
 record Told (n : ℕ) (un : ℕ → List WantValue) (w : Script) (a : verdict.Reply) : Type 0 where
   want : WantValue
   out : un n ≡ want ∷ []

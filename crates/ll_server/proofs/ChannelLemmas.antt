@@ -21,11 +21,11 @@ room-in all (Ok d) c h =
     let less = some-if (nat_lt (length all) 1024) (not (has_name all d.channel)) c d h in grind (arith, nat_tests)
 room-in all (Err fault) c h = cc
 
--- a channel that may stand after others finds room
+-- a channel that is allowed after others finds room
 pub room-for : (all : List Configuration) (line : List ℕ) (c : Configuration) → Some c ≡ channel_line all line → length all < 1024
 room-for all line c h = room-in all (settings_in line) c h
 
--- the next line, as it is told
+-- the next line, as it is read
 record TextParts (lines : List (List ℕ)) (number : ℕ) (text : List ℕ) (new : Left) : Type 0 where
   are : lines ≡ text ∷ new.lines
   utf8 : is_utf8 text ≡ true
@@ -88,7 +88,7 @@ pub reads-bad : (first left new : Left) (all : List Configuration) (text : List 
     → None ≡ channel_line all text → channels_from [] first.lines first.number ≡ Err left.number
 reads-bad first left new all text r h is = r.same ∙ channels-at all left new text None h (sym is)
 
--- ---- where no memory was found
+-- ---- out of memory
 
 right-by : (n : ℕ) (r : Result (List Configuration) ℕ) → Least (n + 1) r → IsRightTo n r
 right-by n (Ok cs) h = tt
@@ -115,7 +115,7 @@ reads-memory first left new (d ∷ all) text r h ok =
     subst (IsRightTo first.number) (sym r.same)
     (more-least first.number (length (d ∷ all)) (d ∷ all) left.lines left.number r.passed (omega arith))
 
--- the same where a channel finds no place
+-- the same if a channel finds no place
 pub reads-full : (first left new : Left) (all : List Configuration) (text : List ℕ) (c : Configuration) → Reads first left all → next_text left ≡ Ok (text, new)
     → Some c ≡ channel_line all text → IsRightTo first.number (channels_from [] first.lines first.number)
 reads-full first left new all text c r h is =

@@ -1,4 +1,4 @@
--- What lines tell, one after another.
+-- The values of lines, one after another.
 use Rattle.std.proofs.Common.{◌≡◌, ℕ, ◌+◌, ◌<◌, ◌≤◌, ◌==◌, List, [], ◌∷◌, ◌++◌, append-nil, Bool, true, false, cond, Option, Some, None, Result, Ok, Err, refl, ap, sym, subst, ◌∙◌, length, codes, option_map, IfErr, IsErrAnd, arith}
 use Rattle.std.proofs.lemmas.Bool.Decides.{nat_tests}
 use Rattle.std.specs.Net.Grammar.{IsSocketV4Text, Parses}
@@ -129,7 +129,7 @@ channels-least n before (line ∷ rest) number here =
 
 -- ---- the whole
 
--- what is told, part by part
+-- the settings, part by part
 abbrev pub with_channels : SocketAddrV4 → SocketAddrV4 → ℕ → Option (List ℕ) → Option (List ℕ) → Left → Result ConfigValue ℕ
 with_channels a b w r l left =
     and_then (channels_from [] left.lines left.number)
@@ -147,7 +147,7 @@ with_workers a b left = and_then (next workers_line left) (λ w. with_records a 
 abbrev pub with_publishers : SocketAddrV4 → Left → Result ConfigValue ℕ
 with_publishers a left = and_then (next (address_line (codes "publish ")) left) (λ b. with_workers a b.0 b.1)
 
--- ---- where no memory was found
+-- ---- out of memory
 
 channels-least-in : (n : ℕ) (a b : SocketAddrV4) (w : ℕ) (r l : Option (List ℕ)) (five : Left) → n ≤ five.number → Least n (with_channels a b w r l five)
 channels-least-in n a b w r l five here =
@@ -185,7 +185,7 @@ wanting-of : {A : Type 0} (r : Result A ConfigFault) (fault : ConfigFault) {B : 
     → IsFault fault read wanting → wanting
 wanting-of r fault read wanting is e told = subst (λ f. IsFault f read wanting) (same-fault r fault Memory is e) told
 
--- the lines of which no memory is wanted were right, and these are left
+-- the lines that need no memory were right, and these are left
 pub record Head (bytes : List ℕ) (a b : SocketAddrV4) (w : ℕ) (three : Left) : Type 0 where
   pub told : config_in bytes ≡ with_records a b w three
   pub number : three.number ≡ 4

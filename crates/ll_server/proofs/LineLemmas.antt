@@ -90,7 +90,7 @@ over-by (b ∷ bs) =
     ∙ sym (some-bytes (length (line.0 ∷ line.1)) (omega arith))
     ∙ ap (λ ls. length ls == 0) (sym line.2)
 
--- no line is left where no bytes are
+-- no line is left if no bytes are
 pub over-is : (left : Left) (bytes : List ℕ) (number : ℕ) → record { lines = file_lines bytes; number = number } ≡ left → (length bytes == 0) ≡ (length left.lines == 0)
 over-is left bytes number is = over-by bytes ∙ ap (λ (l : Left). length l.lines == 0) is
 

@@ -1,4 +1,4 @@
-//! The settings of a server, a line each.
+//! Reads a server's settings file, which has one setting per line.
 ghost use Rattle.std.specs.Prelude.{◌≡◌, ◌≤◌, ◌<◌, ◌+◌, IfErr, IfOk, IsErrOf, IsOk, OnErr, OnOk, Ok, Err, [], Some, length, option_map, vec_len, ℕ};
 ghost use Rattle.ll_item.specs.Settings.{settings_in};
 ghost use Rattle.ll_server.specs.Config as spec;
@@ -13,25 +13,25 @@ use std::alloc::{AllocError, Global};
 use std::net::SocketAddrV4;
 
 /// The most channels of a server.
-const CHANNELS: usize = 1_024;
+pub const CHANNELS: usize = 1_024;
 
 /// The most workers of each role.
 const WORKERS: u64 = 4_096;
 
-/// What a server is told: its lines, in this order.
+/// The settings of a server: the lines of its settings file, in this order.
 #[derive(Drop)]
 pub struct Config {
-    /// `listen ADDRESS:PORT`: where players come.
+    /// `listen ADDRESS:PORT`: where players connect.
     pub players: SocketAddrV4,
-    /// `publish ADDRESS:PORT`: where publishers come.
+    /// `publish ADDRESS:PORT`: where publishers connect.
     pub publishers: SocketAddrV4,
-    /// `workers N`.
+    /// `workers N`: how many connections of each role are served at once.
     pub workers: Workers,
-    /// `record PATH`, which may be left out: the path that the names of the records' files begin with.
+    /// `record PATH`, which is optional: the path that the names of the records' files begin with.
     pub record: Option<Text>,
-    /// `log PATH`, which may be left out: the file that each channel's numbers go to.
+    /// `log PATH`, which is optional: the file that each channel's numbers go to.
     pub log: Option<Text>,
-    /// One or more settings lines of channels with distinct names.
+    /// The settings lines of 1 to 1,024 channels with distinct names.
     pub channels: Vec<Settings>,
     ghost some_channel: { 1 ≤ vec_len channels },
     ghost few_channels: { vec_len channels ≤ 1024 },
@@ -40,18 +40,19 @@ pub struct Config {
 /// How many connections of each role are served at once.
 #[derive(Clone, Copy, Drop)]
 pub struct Workers {
+    /// The number of connections of each role.
     pub count: usize,
     ghost some: { 1 ≤ count },
     ghost few: { count ≤ 4096 },
 }
 
 impl Config {
-    /// Returns what the settings file `bytes` tells.
+    /// Reads the settings file `bytes`.
     ///
     /// # Errors
     ///
-    /// `BadLine` with the number of the first line that can't stand in its place, counted from 1; `Memory` if no memory was found for a path or a channel,
-    /// and the lines before it are right.
+    /// `BadLine` with the number of the first line that isn't allowed in its place, counted from 1; `Memory` if out of memory for a path or
+    /// a channel, and the lines before it are right.
     pub fn read(alloc: Global, bytes: &[u8]) -> Result<Config, ConfigFault>
         ensures value { IfOk result (λ c. config_in bytes.now ≡ Ok (record {
           players = c.players;
@@ -82,7 +83,7 @@ impl Config {
     }
 }
 
-/// Returns the address in the next line, after `keyword`.
+/// Reads the address in the next line, after `keyword`.
 fn read_address(lines: &mut Lines<'_>, keyword: &str) -> Result<SocketAddrV4, ConfigFault>
     ensures value { IfOk result (λ a. next (address_line keyword.now) lines.old ≡ Ok (a, lines.new)) }
     ensures number { OnOk result (lines.new.number ≡ lines.old.number + 1) }
@@ -95,14 +96,14 @@ fn read_address(lines: &mut Lines<'_>, keyword: &str) -> Result<SocketAddrV4, Co
     }
 }
 
-/// Returns the address in `line`, after `keyword`.
+/// Parses the address in `line`, after `keyword`.
 fn address_in(line: &str, keyword: &str) -> Option<SocketAddrV4>
     ensures { result ≡ address_line keyword.now line.now }
 {
     after(line, keyword)?.parse::<SocketAddrV4>().ok()
 }
 
-/// Returns the number of workers in the next line.
+/// Reads the number of workers in the next line.
 fn read_workers(lines: &mut Lines<'_>) -> Result<Workers, ConfigFault>
     ensures value { IfOk result (λ w. next workers_line lines.old ≡ Ok (w.count, lines.new)) }
     ensures number { OnOk result (lines.new.number ≡ lines.old.number + 1) }
@@ -115,7 +116,7 @@ fn read_workers(lines: &mut Lines<'_>) -> Result<Workers, ConfigFault>
     }
 }
 
-/// Returns the number of workers in `line`.
+/// Parses the number of workers in `line`: 1 to 4,096.
 fn workers_in(line: &str) -> Option<Workers>
     ensures { option_map (λ w. w.count) result ≡ workers_line line.now }
 {
@@ -129,7 +130,7 @@ fn workers_in(line: &str) -> Option<Workers>
     }
 }
 
-/// Returns the path in the next line, if that begins with `keyword`. Any other line is left for later.
+/// Reads the path in the next line, if that begins with `keyword`. Any other line is left for later.
 fn read_path(
     alloc: Global,
     lines: &mut Lines<'_>,
@@ -152,7 +153,7 @@ fn read_path(
     }
 }
 
-/// Returns the path in `line`, after `keyword`: one byte or more.
+/// Parses the path in `line`, after `keyword`: one byte or more.
 fn path_in<'a>(line: &'a str, keyword: &str) -> Option<&'a str>
     ensures { option_map (λ p. p.now) result ≡ path_line keyword.now line.now }
 {
@@ -160,7 +161,7 @@ fn path_in<'a>(line: &'a str, keyword: &str) -> Option<&'a str>
     if path.is_empty() { None } else { Some(path) }
 }
 
-/// Returns the channels of all lines that are left, of which there is at least one.
+/// Reads the channels of all lines that are left. Without a line the next one is bad.
 fn read_channels(alloc: Global, lines: &mut Lines<'_>) -> Result<Vec<Settings>, ConfigFault>
     ensures value { IfOk result (λ all. channels_from [] lines.old.lines lines.old.number ≡ Ok all.items) }
     ensures bad { IfErr result (λ fault. IsFault fault (channels_from [] lines.old.lines lines.old.number) (IsRightTo lines.old.number (channels_from [] lines.old.lines lines.old.number))) }
@@ -186,7 +187,7 @@ fn read_channels(alloc: Global, lines: &mut Lines<'_>) -> Result<Vec<Settings>, 
     Ok(all)
 }
 
-/// Returns the channel of the settings line `line`, if it can stand after the channels `before`.
+/// Parses the channel of the settings line `line`, or returns `None` if it isn't allowed after the channels `before`.
 fn channel_in(
     alloc: Global,
     before: &[Settings],

@@ -1,3 +1,4 @@
+//! What is counted of one channel, and the line of numbers that is written of it.
 use ll_attr::Text;
 use ll_format::UtcTime;
 use ll_publish::Refusal;
@@ -7,7 +8,7 @@ use std::alloc::{AllocError, Global};
 use std::fmt;
 use std::sync::atomic::{AtomicU64, Ordering};
 
-/// Why an item may be refused once its channel is known, in the order in which the line of numbers tells them.
+/// Why an item is refused once its channel is known, in the order of the line of numbers.
 const REFUSALS: [Refusal; 15] = [
     Refusal::Rule(PublishFault::NoRendition),
     Refusal::Rule(PublishFault::Ended),
@@ -26,7 +27,7 @@ const REFUSALS: [Refusal; 15] = [
     Refusal::Rule(PublishFault::TimeBack),
 ];
 
-/// A number that several threads count.
+/// A number that several threads change.
 #[derive(Drop)]
 struct Counter(AtomicU64);
 
@@ -48,12 +49,12 @@ impl Counter {
     }
 }
 
-/// How many of what there were on one channel.
+/// What is counted of one channel.
 #[derive(Drop)]
 pub(crate) struct Counts {
     /// The channel's name.
     name: Text,
-    /// Requests that wait now.
+    /// The number of requests that wait now.
     held: Counter,
     playlists: Counter,
     updates: Counter,
@@ -62,20 +63,20 @@ pub(crate) struct Counts {
     too_far: Counter,
     busy: Counter,
     timeouts: Counter,
-    /// Requests that its record, which was full, had no place for.
+    /// The number of requests that its full record had no place for.
     record_full: Counter,
-    /// Requests for which no memory was found.
+    /// The number of requests that failed out of memory.
     memory: Counter,
-    /// Items that were accepted.
+    /// The number of items that were accepted.
     items: Counter,
-    /// Items that were refused, for each of [`REFUSALS`].
+    /// The number of items that were refused for each of [`REFUSALS`].
     refused: Vec<Counter>,
-    /// How often its record was handed out since it was full.
+    /// How often its record was handed out because it was full.
     full_records: Counter,
 }
 
 impl Counts {
-    /// Nothing has happened on the channel of this name.
+    /// Returns counts of 0 for the channel `name`.
     pub(crate) fn new(alloc: Global, name: &str) -> Result<Counts, AllocError> {
         let mut refused = Vec::with_capacity(alloc, REFUSALS.len())?;
         for _ in 0..REFUSALS.len() {
@@ -99,22 +100,22 @@ impl Counts {
         })
     }
 
-    /// A request begins to wait.
+    /// Counts a request that begins to wait.
     pub(crate) fn held(&self) {
         self.held.add();
     }
 
-    /// It waits no longer.
+    /// Counts a request that no longer waits.
     pub(crate) fn freed(&self) {
         self.held.take_away();
     }
 
-    /// The record was full.
+    /// Counts a record that was full.
     pub(crate) fn filled(&self) {
         self.full_records.add();
     }
 
-    /// A request has this answer. Those that a channel never gives are told nowhere.
+    /// Counts a request by its answer. Answers that no channel gives aren't counted.
     pub(crate) fn answered(&self, answer: &Answer) {
         match answer {
             Answer::Reply(reply) => self.replied(reply),
@@ -139,7 +140,7 @@ impl Counts {
         counter.add();
     }
 
-    /// An item was accepted, or refused so.
+    /// Counts an item that was accepted, or that was refused for `refusal`.
     pub(crate) fn published(&self, refusal: Option<Refusal>) {
         let Some(refusal) = refusal else {
             self.items.add();
@@ -152,7 +153,7 @@ impl Counts {
         }
     }
 
-    /// Adds the line of the channel at this moment.
+    /// Adds the channel's line of numbers to `text`, with its LF; `time` stands at its front.
     pub(crate) fn push_line(&self, text: &mut String, time: UtcTime) -> Result<(), AllocError> {
         let name = &self.name;
         write!(text, "{time} {name}{self}")?;
@@ -163,7 +164,7 @@ impl Counts {
     }
 }
 
-/// How many items were refused for a reason, where there were any.
+/// Adds to `text` how many items were refused for a reason, if any were.
 fn push_refused(text: &mut String, count: u64, name: &str) -> Result<(), AllocError> {
     if count == 0 {
         return Ok(());
@@ -171,7 +172,7 @@ fn push_refused(text: &mut String, count: u64, name: &str) -> Result<(), AllocEr
     write!(text, " no-{name}={count}")
 }
 
-/// Each number after its name, but for refused items.
+/// Writes each number but those of refused items, with its name before it.
 impl fmt::Display for Counts {
     fn fmt<W: fmt::Write>(&self, f: &mut fmt::Formatter<W>) -> fmt::Result {
         for (name, counter) in [

@@ -1,24 +1,25 @@
+//! The gate that answers pass before they are sent, and by which connections report what they get.
 use ll_publish::Refusal;
 use ll_wire::Answer;
 
-/// What each answer passes before it is sent, and who is told of what connections get. Only the first has to be written; of the others nobody
-/// need be told.
+/// A gate that each answer passes before it is sent, and an observer of what connections get. Channels are given by their places. Only
+/// `pass` has to be written: the other calls do nothing by default.
 pub trait Gate {
-    /// The answer of this number of its connection, from 1, is about to be sent.
+    /// Is called before an answer is sent; `call` is its number on its connection, from 1.
     fn pass(&self, call: u64);
 
-    /// A player's request of the channel at this place has this answer.
+    /// Is called when a player's request of a channel has its answer.
     fn answered(&self, _channel: usize, _answer: &Answer) {}
 
-    /// A player's request of the channel at this place begins to wait.
+    /// Is called when a player's request of a channel begins to wait.
     fn held(&self, _channel: usize) {}
 
-    /// It waits no longer: it has its reply, or was given up.
+    /// Is called when such a request no longer waits: it has its reply, or was closed.
     fn freed(&self, _channel: usize) {}
 
-    /// A publisher's item for the channel at this place was accepted, or refused so.
+    /// Is called when a publisher's item for a channel was accepted, or was refused for a reason.
     fn published(&self, _channel: usize, _refusal: Option<Refusal>) {}
 
-    /// The record of the channel at this place was full, and is handed out.
+    /// Is called when the record of a channel was full, and is handed out.
     fn filled(&self, _channel: usize) {}
 }

@@ -1,21 +1,22 @@
-//! Files that a server writes as it goes.
+//! Files that a server appends to as it runs.
 use ll_attr::Text;
 use std::fs::{File, OpenOptions};
 use std::io::Write;
 use std::rt::Files;
 use std::sync::atomic::{AtomicBool, Ordering};
 
-/// A file to whose end texts are added. It ends with the first text that isn't written whole.
+/// A file that texts are appended to. Nothing is appended after the first text that isn't written whole.
 #[derive(Drop)]
 pub(crate) struct Journal {
-    /// What standard error calls it.
+    /// Its name in messages to standard error.
     what: Text,
     file: Option<File>,
+    /// Whether a write has failed.
     ended: AtomicBool,
 }
 
 impl Journal {
-    /// The file of this name, which is made where it isn't there. Of one that can't be opened standard error is told, and nothing is written.
+    /// Opens the file `path`, or creates it. If that fails, says so on standard error, and nothing will be written.
     pub(crate) fn open<R: Files<File = File> + Eprint>(
         rt: &R,
         path: String,
@@ -35,7 +36,7 @@ impl Journal {
         }
     }
 
-    /// Writes a text at the file's end. Where that fails, standard error is told why, and nothing more is written.
+    /// Appends `text` to the file. If that fails, says why on standard error, and nothing more will be written.
     pub(crate) fn append<R: Eprint>(&self, rt: &R, text: &[u8]) {
         let Some(file) = &self.file else {
             return;

@@ -1,5 +1,5 @@
-//! What an operator tells a server and is told of it: its settings file, the files that the records of its channels and their numbers go to,
-//! and what is counted of each channel for these numbers. Nothing is promised of the numbers.
+//! What an operator gives a server and gets from it: its settings file, the files of its channels' records and numbers, and what is
+//! counted of each channel for these numbers. No contract speaks of the numbers.
 #![tactic(auto)]
 
 mod config;
@@ -12,7 +12,7 @@ mod log;
 mod numbers;
 mod records;
 
-pub use config::{Config, Workers};
+pub use config::{CHANNELS, Config, Workers};
 pub use fault::ConfigFault;
 pub use gate::Gate;
 pub use log::Log;

@@ -1,4 +1,4 @@
-//! The lines of a settings file.
+//! Reads a settings file line by line.
 ghost use Rattle.std.specs.Prelude.{◌≡◌, ◌==◌, ◌<◌, ◌+◌, ◌∷◌, ℕ, IfErr, IfOk, OnOk, Ok, length};
 ghost use Rattle.std.specs.Str.Lines.{strip_carriage_return};
 ghost use Rattle.ll_server.specs.Config as spec;
@@ -10,11 +10,11 @@ use memchr::memchr;
 use std::marker::Model;
 use std::str;
 
-/// The lines of a settings file that weren't read.
+/// The lines of a settings file that weren't read yet.
 #[derive(Drop)]
 pub(crate) struct Lines<'a> {
     rest: &'a [u8],
-    /// How many lines were read.
+    /// The number of lines that were read.
     count: u64,
 }
 
@@ -47,11 +47,11 @@ impl<'a> Lines<'a> {
         self.rest.is_empty()
     }
 
-    /// Returns the next line, without its end.
+    /// Reads the next line, and returns it without its end.
     ///
     /// # Errors
     ///
-    /// `BadLine` with its number if there is none, or it isn't UTF-8.
+    /// `BadLine` with its number if there is none, or if it isn't UTF-8.
     pub(crate) fn text(&mut self) -> Result<&'a str, ConfigFault>
         ensures value { IfOk result (λ line. next_text self.old ≡ Ok (line.now, self.new)) }
         ensures number { OnOk result (self.new.number ≡ self.old.number + 1) }
@@ -87,7 +87,7 @@ impl<'a> Lines<'a> {
         ConfigFault::BadLine(self.count)
     }
 
-    /// Returns the fault of the next line, if it is missing.
+    /// Returns the fault of the next line, which is missing.
     pub(crate) fn missing(&self) -> ConfigFault
         ensures { result ≡ ConfigFault.BadLine self.now.number }
     {

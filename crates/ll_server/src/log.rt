@@ -1,11 +1,11 @@
-//! The file that the numbers of channels go to.
+//! The log: the file that the numbers of channels go to.
 use crate::journal::Journal;
 use ll_attr::Text;
 use std::alloc::{AllocError, Global};
 use std::fs::File;
 use std::rt::Files;
 
-/// Takes lines for an operator: each goes to the end of the file, or nowhere.
+/// The log of a server: lines are appended to its file, if there is one.
 #[derive(Drop)]
 pub struct Log<'a, R> {
     rt: &'a R,
@@ -13,7 +13,7 @@ pub struct Log<'a, R> {
 }
 
 impl<'a, R: Files<File = File> + Eprint> Log<'a, R> {
-    /// The file of this name; nothing is kept without one.
+    /// Opens the file `path`; without a path no lines are kept.
     pub fn open(rt: &'a R, alloc: Global, path: Option<&Text>) -> Result<Log<'a, R>, AllocError> {
         let file = match path {
             Some(path) => Some(Journal::open(
@@ -28,12 +28,12 @@ impl<'a, R: Files<File = File> + Eprint> Log<'a, R> {
 }
 
 impl<R: Eprint> Log<'_, R> {
-    /// Whether lines go anywhere.
+    /// Returns whether lines are kept.
     pub fn is_kept(&self) -> bool {
         self.file.is_some()
     }
 
-    /// Adds these lines.
+    /// Appends `lines`.
     pub fn add(&self, lines: &str) {
         if let Some(file) = &self.file {
             file.append(self.rt, lines.as_bytes());

@@ -1,3 +1,4 @@
+//! The numbers of all channels, which connections count as they are served.
 use crate::counts::Counts;
 use crate::gate::Gate;
 use ll_format::UtcTime;
@@ -6,14 +7,14 @@ use ll_publish::Refusal;
 use ll_wire::Answer;
 use std::alloc::{AllocError, Global};
 
-/// How many of what there were on each channel since the server's start. Connections count them as they are served.
+/// What was counted of each channel since the server's start. Connections count it as they are served.
 #[derive(Drop)]
 pub struct Numbers {
     channels: Vec<Counts>,
 }
 
 impl Numbers {
-    /// Those of these channels.
+    /// Returns counts of 0 for `channels`.
     pub fn new(alloc: Global, channels: &[Settings]) -> Result<Numbers, AllocError> {
         let mut counts = Vec::with_capacity(alloc, channels.len())?;
         for settings in channels {
@@ -22,7 +23,7 @@ impl Numbers {
         Ok(Numbers { channels: counts })
     }
 
-    /// A line for each channel, as things are at this moment.
+    /// Returns a line of the present numbers for each channel; `time` stands at its front.
     pub fn lines(&self, alloc: Global, time: UtcTime) -> Result<String, AllocError> {
         let mut text = String::new(alloc);
         for counts in &self.channels {

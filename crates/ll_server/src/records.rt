@@ -1,4 +1,4 @@
-//! The files that the records of channels go to.
+//! The files of channels' records.
 use crate::journal::Journal;
 use ll_attr::Text;
 use ll_item::Settings;
@@ -7,19 +7,19 @@ use std::alloc::{AllocError, Global};
 use std::fs::File;
 use std::rt::Files;
 
-/// Takes the chunks of channels: each goes to the end of its channel's file, or nowhere. A record ends with the first chunk that isn't written whole: a part of that
-/// chunk may then stand at the file's end, where `check` finds the line that is missing.
+/// The records of a server: each chunk is appended to its channel's file, if there is one. A record ends with the first chunk that isn't
+/// written whole: some of that chunk may be left at the file's end, where `check` finds the line that is missing.
 #[derive(Drop)]
 pub struct Records<'a, R> {
     rt: &'a R,
-    /// The record of each channel, in their order; none, where no records are kept.
+    /// The record of each channel, in their order, or none if no records are kept.
     kept: Vec<Journal>,
 }
 
 impl<'a, R: Files<File = File> + Eprint> Records<'a, R> {
-    /// The records of these channels. Their files are opened here, and made where they aren't there, so that none is wanting later because
-    /// connections have taken all descriptors. Of one that can't be opened standard error is told, and its channel has no record.
-    /// Without a path no records are kept.
+    /// Opens the record of each of `channels`, or creates it: all of them at once, so that none fails later because connections have taken
+    /// all descriptors. If a file can't be opened, says so on standard error, and its channel has no record. Without a path no records are
+    /// kept.
     pub fn open(
         rt: &'a R,
         alloc: Global,
@@ -37,7 +37,7 @@ impl<'a, R: Files<File = File> + Eprint> Records<'a, R> {
 }
 
 impl<R> Records<'_, R> {
-    /// How many records are kept: one of each channel, or none.
+    /// Returns the number of records that are kept: one for each channel, or none.
     pub fn len(&self) -> usize {
         self.kept.len()
     }
@@ -51,7 +51,7 @@ impl<R: Eprint> Sink for &Records<'_, R> {
     }
 }
 
-/// The record of the channel of this name, in the file `<path>.<name>`.
+/// Opens the record of `channel`, in the file `<path>.<channel>`.
 fn record_of<R: Files<File = File> + Eprint>(
     rt: &R,
     alloc: Global,

@@ -1,18 +1,18 @@
-//! Answers of every name.
+//! Answers to players, by name.
 use ll_item::{Item, Media, Payload, Settings, SkipKind, What};
 use ll_page::{Page, Rendition, Shown};
 use ll_range::Ranges;
 use ll_store::Blocks;
-use ll_verdict::{AskFault, Piece, Reply};
+use ll_verdict::{AskFault, MediaReply, Reply};
 use ll_window::Window;
 use ll_wire::{Answer, HeadFault};
 use std::alloc::{AllocError, Global};
 
-/// A channel of which delta updates skip the segments that have more than 6 s after them.
+/// The settings of a channel whose delta updates skip the segments with more than 6 s after them.
 pub(crate) const SHORT: &str =
     "channel cam target=1 part=1000000 skip=6 window=9 renditions=hi first=0 start=0";
 
-/// Returns the answer of the name `name`; none if no answer has it.
+/// Returns the answer that is called `name`, or `None` if none is.
 pub(crate) fn answer(alloc: Global, name: &str) -> Result<Option<Answer>, AllocError> {
     Ok(match name {
         "playlist" => page(alloc, None)?.map(|page| Answer::Reply(Reply::Text(page))),
@@ -29,7 +29,7 @@ pub(crate) fn answer(alloc: Global, name: &str) -> Result<Option<Answer>, AllocE
     })
 }
 
-/// Returns a playlist of eight segments of a second, or the delta update of this kind.
+/// Returns the playlist of eight segments of a second each, or its delta update of the kind `form`.
 fn page(alloc: Global, form: Option<SkipKind>) -> Result<Option<Page>, AllocError> {
     match Settings::read(alloc, SHORT) {
         Ok(settings) => page_of(alloc, &settings, form),
@@ -48,7 +48,7 @@ fn page_of(
     Page::make(alloc, &shown, 0, form)
 }
 
-/// Returns a rendition of eight segments of a second.
+/// Returns a rendition of eight segments of a second each.
 fn rendition(alloc: Global, settings: &Settings) -> Result<Rendition, AllocError> {
     let mut window = Window::new(alloc, settings)?;
     for _ in 0..8 {
@@ -64,8 +64,8 @@ fn rendition(alloc: Global, settings: &Settings) -> Result<Rendition, AllocError
 }
 
 /// Returns a segment without bytes.
-fn piece(alloc: Global) -> Result<Piece, AllocError> {
-    Ok(Piece {
+fn piece(alloc: Global) -> Result<MediaReply, AllocError> {
+    Ok(MediaReply {
         bytes: Blocks::one(alloc, Media::none())?,
         number: 1,
         rendition: 0,

@@ -1,12 +1,12 @@
-//! Settings files.
+//! A test of settings files.
 use ll_server::Config;
 use std::alloc::{AllocError, Global};
 use std::process::Abort;
 use std::test::Fail;
 
-/// A settings file, an arrow, and what it means: where players come, where publishers come, how many workers there are, the paths of the records and of the
-/// numbers, or `-`, and the names of the channels. ␊ stands for LF, ␍ for CR, CHANNEL for a settings line up to the name, REST for what stands after the name,
-/// TWO for the first two lines, and THREE for the first three.
+/// A settings file, an arrow, and its meaning: where players connect, where publishers connect, how many workers there are, the paths of the records
+/// and of the numbers, or `-`, and the names of the channels. ␊ stands for LF, ␍ for CR, CHANNEL for the word `channel`, REST for what stands after
+/// the channel's name, TWO for the first two lines, and THREE for the first three.
 const FILES: &str = "THREECHANNEL camREST => 127.0.0.1:8080 127.0.0.1:8081 4 - - cam
 THREECHANNEL camREST␊ => 127.0.0.1:8080 127.0.0.1:8081 4 - - cam
 THREECHANNEL camREST␍␊ => 127.0.0.1:8080 127.0.0.1:8081 4 - - cam
@@ -44,7 +44,7 @@ fn files_have_their_meaning(rt: HostRuntime) -> Result<(), Fail> {
     Ok(())
 }
 
-/// What the file before the arrow of a row means stands after it.
+/// Compares the meaning of a row's file with what stands after the arrow.
 fn check_row(rt: &impl Abort, alloc: Global, row: &str) -> Result<(), AllocError> {
     let (file, answer) = row.split_once(" => ").unwrap_or((row, "an arrow"));
     let told = told(alloc, text(alloc, file)?.as_str())?;
@@ -71,7 +71,7 @@ fn text(alloc: Global, file: &str) -> Result<String, AllocError> {
     Ok(text)
 }
 
-/// Returns what a file means, or its fault.
+/// Returns the meaning of a file, or its fault.
 fn told(alloc: Global, file: &str) -> Result<String, AllocError> {
     let mut told = String::new(alloc);
     match Config::read(alloc, file.as_bytes()) {

@@ -1,4 +1,4 @@
-//! Tests of `ll_server`. They stand here so that it isn't proved a second time for its tests.
+//! Tests of `ll_server`. They have a crate of their own so that `ll_server` isn't proved a second time for them.
 #![tactic(auto)]
 
 #[cfg(test)]

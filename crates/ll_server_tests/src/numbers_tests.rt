@@ -1,4 +1,4 @@
-//! The numbers for an operator.
+//! A test of the numbers that an operator reads.
 use crate::answers::{SHORT, answer};
 use ll_format::UtcTime;
 use ll_item::Settings;
@@ -9,7 +9,8 @@ use std::alloc::{AllocError, Global};
 use std::process::Abort;
 use std::test::Fail;
 
-/// What happens on a channel, an arrow, and the numbers of its line that aren't 0 then: each event, answer and refusal is told under its own name, once.
+/// What happens on a channel, an arrow, and the numbers of its line that aren't 0 then: each event, answer and refusal is counted once, under its own
+/// name.
 const EVENTS: &str = "held => held=1
 freed => 
 item => items=1
@@ -43,7 +44,7 @@ no UnknownChannel =>
 no LineTooLong => 
 no MediaTooLong => ";
 
-/// Each refusal.
+/// All refusals.
 const REFUSALS: [Refusal; 18] = [
     Refusal::Rule(PublishFault::NoRendition),
     Refusal::Rule(PublishFault::Ended),
@@ -73,7 +74,7 @@ fn numbers_have_their_names(rt: HostRuntime) -> Result<(), Fail> {
     Ok(())
 }
 
-/// The numbers after what stands before the arrow of a row stand after it.
+/// Compares the numbers after the event of a row with what stands after the arrow.
 fn check_row(rt: &impl Abort, alloc: Global, row: &str) -> Result<(), AllocError> {
     let (event, answer) = row.split_once(" => ").unwrap_or((row, "an arrow"));
     let told = told(alloc, event)?;
@@ -81,7 +82,7 @@ fn check_row(rt: &impl Abort, alloc: Global, row: &str) -> Result<(), AllocError
     Ok(())
 }
 
-/// Returns the numbers that aren't 0 once this has happened on a channel.
+/// Returns the numbers that aren't 0 once `event` has happened on a channel.
 fn told(alloc: Global, event: &str) -> Result<String, AllocError> {
     let mut told = String::new(alloc);
     let Ok(settings) = Settings::read(alloc, SHORT) else {
@@ -94,7 +95,7 @@ fn told(alloc: Global, event: &str) -> Result<String, AllocError> {
     Ok(told)
 }
 
-/// Makes it happen on the only channel.
+/// Makes `event` happen on the only channel.
 fn happen(alloc: Global, numbers: &Numbers, event: &str) -> Result<(), AllocError> {
     match event {
         "held" => numbers.held(0),
@@ -127,7 +128,7 @@ fn refusal(event: &str) -> Option<Refusal> {
     None
 }
 
-/// Adds the numbers of the only channel that aren't 0.
+/// Appends the numbers of the only channel that aren't 0.
 fn push_told(alloc: Global, numbers: &Numbers, told: &mut String) -> Result<(), AllocError> {
     let Some(time) = UtcTime::at(0) else {
         return Ok(());

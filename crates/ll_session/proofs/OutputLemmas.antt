@@ -5,7 +5,7 @@ use Rattle.ll_session.specs.Output.{unsent}
 
 -- ---- answers are dropped one by one
 
--- what is left of answers, of which so many bytes are still to be dropped
+-- what is left of answers whose first `n` bytes are still to be dropped
 abbrev pub left : Option ℕ → List (List ℕ) → List (List ℕ)
 left None answers = answers
 left (Some n) answers = unsent n answers

@@ -262,7 +262,7 @@ module _ (unread : List ℕ) (answers : List (List ℕ)) (bytes : List ℕ) (ent
     none = λ e. refl;
   }
 
-  -- ---- no memory is found to go on
+  -- ---- the caller is out of memory
 
   mute_reads : (shut : Bool) (out : Option Bool) → ReadsOn shut out bytes entries unread → (later : List Entry) × (requests bytes ≡ entries ++ later)
   mute_reads true out r = r

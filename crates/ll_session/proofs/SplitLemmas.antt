@@ -57,7 +57,7 @@ pub taking-splits : (bytes more : List ℕ) → Splits (taking bytes) more (requ
 unfolding taking
 taking-splits bytes more = splits_in (length bytes) bytes more (omega arith)
 
--- ---- where no want is given, no request is left
+-- ---- if no want is returned, no request is left
 
 abbrev Rests : Taking → Type 0
 Rests t = t.ends ≡ false → t.want ≡ None → requests t.rest ≡ []
@@ -101,7 +101,7 @@ none_is_left s a b want on =
     ∙ taking-rests s.unread (ap (λ (q : SessionValue). q.shut) (sym (pulled_is s a b)) ∙ on)
     (none_given (taking s.unread).want (sym (want_is s a b) ∙ want))
 
--- ---- what is refused is no want, and where a refusal ends the connection, no want is given
+-- ---- what is refused is no want, and if a refusal ends the connection, no want is returned
 
 abbrev IsRight : Taking → Type 0
 IsRight t = (wants t.passed ≡ 0) × (t.ends ≡ true → t.want ≡ None)

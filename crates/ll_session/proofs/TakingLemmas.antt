@@ -53,7 +53,7 @@ taking_at bytes f e = taking-front bytes ∙ ap (taking_by taking bytes) (sym e)
 
 -- ---- one head after another
 
--- one that is refused was told
+-- a request that is refused was answered
 adds_passing : (all : Taking) (told text : List (List ℕ)) (e : Entry) (t : Taking) → refusal e ≡ text → AddsUp all told (passing e t) → AddsUp all (told ++ text) t
 adds_passing all told text e t is a = record {
   said = ap (λ x. (told ++ x) ++ refusals t.passed) (sym is) ∙ append_assoc told (refusal e) (refusals t.passed) ∙ a.said;

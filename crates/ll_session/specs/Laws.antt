@@ -8,10 +8,10 @@ use Rattle.ll_session.specs.Past.{Call, IsTalk, past}
 abbrev pub RequestsExtend : Type 0
 RequestsExtend = (bytes more : List ℕ) → (later : List Entry) × (requests (bytes ++ more) ≡ requests bytes ++ later)
 
--- whatever is called, in whatever order
+-- what holds after any calls, in any order
 abbrev pub WholeConnections : Type 0
 WholeConnections = (calls : List Call) → IsTalk (past calls)
 
--- where no want is out and none is given, no request is left, or the session has shut
+-- if no want is out and none is returned, no request is left, or the session has shut
 abbrev pub NoneIsLeft : Type 0
 NoneIsLeft = (s : SessionValue) → s.shut ≡ false → s.out ≡ None → next_want s ≡ None → (pulled s).shut ≡ false → requests (pulled s).unread ≡ []

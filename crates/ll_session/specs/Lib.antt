@@ -1,3 +1,4 @@
+-- The definitions of this crate: one connection's requests, answers and session.
 pub mod Requests
 pub mod Output
 pub mod Talk

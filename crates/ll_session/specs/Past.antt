@@ -1,4 +1,4 @@
--- All that was done with a session, and what it came to.
+-- All calls of a session, and what they result in.
 use Rattle.std.specs.Prelude.{◌≡◌, ℕ, List, [], ◌∷◌, ◌++◌, Bool, true, false, ◌||◌, Option, Some, None, nat_lt, length, take, fold, if◌then◌else◌}
 use Rattle.std.specs.List.{concat}
 use Rattle.ll_wire.specs.Response.{response_bytes}
@@ -8,7 +8,7 @@ use Rattle.ll_session.specs.Requests.{Entry, Wanted, Refused, Faulty, requests}
 use Rattle.ll_session.specs.Output.{unsent}
 use Rattle.ll_session.specs.Talk.{SessionValue, fresh, fed, muted, pulled, replied, sent, taking, entries_of, overflow, most_waiting}
 
--- a call that changes a session: `feed`, `next_want`, `answered`, `mute`, `sent`. One that finds no memory changes nothing, and is left out
+-- a call that changes a session: `feed`, `next_want`, `answered`, `mute`, `sent`. One that fails changes nothing, and is left out
 pub data Call : Type 0 where
   Feed : List ℕ → Call
   Next : Call
@@ -16,8 +16,8 @@ pub data Call : Type 0 where
   Mute : Call
   Send : ℕ → Call
 
--- the session; the bytes that it took; the wants that it gave and what it refused; the answers that it was given; the bytes that
--- were sent; whether too many bytes came while a want was out
+-- the session; the bytes that it took in; the wants that it returned and the requests that it refused; the answers that it was given;
+-- the bytes that were sent; whether too many bytes came while a want was out
 pub record Past : Type 0 where
   pub session : SessionValue
   pub fed : List ℕ
@@ -50,7 +50,7 @@ next_by false None bytes = entries_of (taking bytes)
 abbrev pub next_entries : SessionValue → List Entry
 next_entries s = next_by s.shut s.out s.unread
 
--- an answer where no want is out can't be given
+-- an answer can't be given if no want is out
 abbrev pub reply_by : Option Bool → Past → Answer → Past
 reply_by None p a = p
 reply_by (Some keep) p a = record p { session = replied p.session a; replies = p.replies ++ a ∷ [] }
@@ -69,8 +69,8 @@ called p (Send n) = record p { session = sent p.session n; gone = p.gone ++ take
 abbrev pub past : List Call → Past
 past calls = fold called before_any calls
 
--- what is put out for the entries, in their order, with the answers that were given to the wants. Too many bytes while a want was
--- out are answered in its place
+-- what is put out for the entries, in their order, with the answers that were given to the wants. If too many bytes came while a want
+-- was out, HeadTooLarge is put out in place of its answer
 abbrev pub conversation : Bool → List Entry → List Answer → List (List ℕ)
 conversation overflowed [] replies = []
 conversation overflowed (Faulty fault ∷ entries) replies = response_bytes (answer.Head fault) false ∷ conversation overflowed entries replies
@@ -78,11 +78,11 @@ conversation overflowed (Refused fault keep ∷ entries) replies = response_byte
 conversation overflowed (Wanted want keep ∷ entries) (a ∷ replies) = response_bytes a keep ∷ conversation overflowed entries replies
 conversation overflowed (Wanted want keep ∷ entries) [] = if overflowed then overflow ∷ [] else []
 
--- what holds after any calls
+-- what holds after any calls (rule 29)
 pub record IsTalk (p : Past) : Type 0 where
-  -- what was given and refused are the first of the requests in the bytes
+  -- the wants that were returned and the requests that were refused are the first of the requests in the bytes
   pub first : (later : List Entry) × (requests p.fed ≡ p.entries ++ later)
-  -- what was sent, and then what wasn't, are the answers to them
+  -- what was sent, and after it what wasn't, is the answers to them
   pub answers : p.gone ++ concat p.session.answers ≡ concat (conversation p.overflowed p.entries p.replies)
   -- the answers that aren't sent are the last of these
   pub unsent : p.session.answers ≡ unsent (length p.gone) (conversation p.overflowed p.entries p.replies)

@@ -5,11 +5,11 @@ use Rattle.ll_directive.specs.declared.fault.TargetFault.{TargetFault}
 use Rattle.ll_wire.specs.Heads.{RequestValue, HeadValue, Unfinished, Whole, Fault, head_of}
 use Rattle.ll_wire.specs.declared.fault.HeadFault.{HeadFault}
 
--- what one head comes to
+-- what one head asks for, or why it is refused
 pub data Entry : Type 0 where
   -- a want, and whether the connection is kept after it
   Wanted : WantValue → Bool → Entry
-  -- a target that wants nothing, and whether the connection is kept after it
+  -- a target that is refused, and whether the connection is kept after it
   Refused : TargetFault → Bool → Entry
   -- a head that is refused: nothing after it is a request
   Faulty : HeadFault → Entry
@@ -25,18 +25,18 @@ entry_by (Err fault) keep = Refused fault keep
 abbrev pub entry_of : RequestValue → Entry
 entry_of r = entry_by (wanted r.target) r.keep
 
--- what the head at the front comes to, and what follows it
+-- the entry of the head at the front, and those that follow it
 abbrev pub requests_by : (List ℕ → List Entry) → List ℕ → HeadValue → List Entry
 requests_by later bytes Unfinished = []
 requests_by later bytes (Fault fault) = Faulty fault ∷ []
 requests_by later bytes (Whole r) = entry_of r ∷ (if r.keep then later (drop r.len bytes) else [])
 
--- of so many heads at most
+-- the entries of at most `n` heads
 abbrev pub requests_in : ℕ → List ℕ → List Entry
 requests_in zero bytes = []
 requests_in (suc n) bytes = requests_by (requests_in n) bytes (head_of bytes)
 
 -- the requests in the bytes, up to the first after which the connection isn't kept, or the first head that is refused. A head
--- has a byte at least, so there are no more of them than bytes
+-- has at least one byte, so there are no more of them than bytes
 unfoldable pub requests : List ℕ → List Entry
 requests bytes = requests_in (length bytes) bytes

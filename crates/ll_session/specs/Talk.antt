@@ -1,4 +1,4 @@
--- What a session has come to, and what each call makes of it.
+-- The state of a session, and how each call changes it.
 use Rattle.std.specs.Prelude.{ℕ, zero, suc, List, [], ◌∷◌, ◌++◌, Bool, true, false, Option, Some, None, Result, Ok, Err, nat_lt, length, drop, if◌then◌else◌}
 use Rattle.std.specs.List.{flat_map}
 use Rattle.ll_directive.specs.Targets.{WantValue}
@@ -11,8 +11,8 @@ use Rattle.ll_wire.specs.declared.answer.Answer.TheVariants as answer
 use Rattle.ll_session.specs.Requests.{Entry, Wanted, Refused, Faulty, wanted}
 use Rattle.ll_session.specs.Output.{unsent}
 
--- the bytes that aren't taken yet; the answers that aren't sent yet, of which the first may have lost its first bytes; where a
--- want is out, whether the connection is kept after it; whether the session has shut
+-- the bytes that weren't taken yet; the answers that weren't sent yet, of which the first may have lost its first bytes; whether the
+-- connection is kept after the want that is out, if one is; whether the session has shut
 pub record SessionValue : Type 0 where
   pub unread : List ℕ
   pub answers : List (List ℕ)
@@ -28,7 +28,7 @@ shuts s text = record { unread = []; answers = s.answers ++ text ∷ []; out = N
 
 -- ---- bytes come
 
--- as many bytes may wait while a want is out
+-- the most bytes that wait while a want is out
 abbrev pub most_waiting : ℕ
 most_waiting = 16384
 
@@ -44,14 +44,14 @@ fed_by true out s piece = s
 fed_by false None s piece = record s { unread = s.unread ++ piece }
 fed_by false (Some keep) s piece = fed_to (nat_lt most_waiting (length (s.unread ++ piece))) s (s.unread ++ piece)
 
--- these bytes came. Where a want is out, too many that wait are answered in its place, and the session shuts
+-- after bytes came. If a want is out and too many bytes wait, HeadTooLarge is put out in place of its answer, and the session shuts (rule 29)
 abbrev pub fed : SessionValue → List ℕ → SessionValue
 fed s piece = fed_by s.shut s.out s piece
 
 -- ---- requests are taken
 
--- what is taken from the front of some bytes: entries that are refused, and then perhaps a want; the bytes that follow; whether a
--- refusal ended it
+-- what is taken from the front of some bytes: entries that are refused, and then at most one want; the bytes that follow; whether a
+-- refusal ended the connection
 pub record Taking : Type 0 where
   pub passed : List Entry
   pub rest : List ℕ
@@ -76,7 +76,7 @@ taking_by later bytes Unfinished = nothing_in bytes
 taking_by later bytes (Fault fault) = passing (Faulty fault) ending
 taking_by later bytes (Whole r) = take_request (wanted r.target) r.keep later (drop r.len bytes)
 
--- of so many heads at most
+-- what is taken of at most `n` heads
 abbrev pub taking_in : ℕ → List ℕ → Taking
 taking_in zero bytes = nothing_in bytes
 taking_in (suc n) bytes = taking_by (taking_in n) bytes (head_of bytes)
@@ -92,7 +92,7 @@ given (Some want) = Wanted want.0 want.1 ∷ []
 abbrev pub entries_of : Taking → List Entry
 entries_of t = t.passed ++ given t.want
 
--- the answer to what is refused
+-- the answer to an entry, if it is refused
 abbrev pub refusal : Entry → List (List ℕ)
 refusal (Wanted want keep) = []
 refusal (Refused fault keep) = response_bytes (answer.Target fault) keep ∷ []
@@ -113,7 +113,7 @@ pulled_by true out s = s
 pulled_by false (Some keep) s = s
 pulled_by false None s = pulled_to s (taking s.unread)
 
--- the next want is taken, and what is refused before it is answered
+-- after the next want was taken, and the requests before it that are refused were answered
 abbrev pub pulled : SessionValue → SessionValue
 pulled s = pulled_by s.shut s.out s
 
@@ -126,7 +126,7 @@ want_by true out bytes = None
 want_by false (Some keep) bytes = None
 want_by false None bytes = first_of (taking bytes).want
 
--- the want that is given
+-- the want that is returned
 abbrev pub next_want : SessionValue → Option WantValue
 next_want s = want_by s.shut s.out s.unread
 
@@ -137,14 +137,14 @@ replied_by None s a = s
 replied_by (Some true) s a = record s { answers = s.answers ++ response_bytes a true ∷ []; out = None }
 replied_by (Some false) s a = shuts s (response_bytes a false)
 
--- the want that is out is answered
+-- after the want that is out was answered; the session shuts if the connection isn't kept (rule 29)
 abbrev pub replied : SessionValue → Answer → SessionValue
 replied s a = replied_by s.out s a
 
--- no memory is found to go on: nothing more is taken or put out, and it shuts
+-- after the caller was out of memory: nothing more is taken or put out, and the session shuts
 abbrev pub muted : SessionValue → SessionValue
 muted s = record s { unread = []; out = None; shut = true }
 
--- so many bytes were sent
+-- after `n` bytes were sent
 abbrev pub sent : SessionValue → ℕ → SessionValue
 sent s n = record s { answers = unsent n s.answers }

@@ -1,14 +1,14 @@
-//! A response of which some bytes were sent.
+//! A response and how much of it was sent.
 ghost use Rattle.std.specs.Prelude.{◌≡◌, ◌≤◌, drop, length};
 ghost use Rattle.ll_wire.specs.Parts.{bytes_of};
 
-use ll_wire::{Message, Slices};
+use ll_wire::{Response, Slices};
 use std::marker::Model;
 
-/// What is left of a response without the bytes that were sent.
+/// The bytes of a response that weren't sent yet.
 #[derive(Drop)]
 pub(crate) struct Left {
-    response: Message,
+    response: Response,
     sent: usize,
 }
 
@@ -24,32 +24,33 @@ impl Model for Left {
 }
 
 impl Left {
-    /// A response of which nothing was sent.
-    pub(crate) fn new(response: Message) -> Left
+    /// Returns all bytes of `response`.
+    pub(crate) fn new(response: Response) -> Left
         ensures { result ≡ bytes_of response }
     {
         Left { response, sent: 0 }
     }
 
-    /// Its bytes.
+    /// Returns the bytes that are left.
     pub(crate) fn slices(&self) -> Slices<'_>
         ensures { result ≡ self.now }
     {
         self.response.after(self.sent)
     }
 
-    /// How many bytes are left.
+    /// Returns the number of bytes that are left.
     pub(crate) fn len(&self) -> usize
         ensures { result ≡ length self.now }
     {
         self.response.len() - self.sent
     }
 
-    /// So many bytes more were sent.
+    /// Drops the first `n` bytes, which were sent.
     pub(crate) fn advance(&mut self, n: usize)
         requires { n ≤ length self.old }
         ensures { self.new ≡ drop n self.old }
     {
+        // Serves the proof alone.
         let whole = self.response.len();
         prove!(self.sent <= whole && n <= whole - self.sent);
         self.sent += n;

@@ -1,5 +1,5 @@
-//! The session of one HTTP/1.1 connection: its bytes come in, its requests go out in order, one want at a time, and their answers
-//! come back to be sent.
+//! The session of one HTTP/1.1 connection: takes in its bytes, returns its requests in order, one want at a time, and puts out
+//! their answers.
 #![tactic(auto)]
 
 mod laws;

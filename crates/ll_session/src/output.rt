@@ -1,16 +1,16 @@
-//! Answers that are put out and not sent yet.
+//! The output of a session: the answers that weren't sent yet.
 ghost use Rattle.std.specs.Prelude.{◌≡◌, ◌<◌, ◌++◌, ◌∷◌, [], IfOk, MatchOption, OnErr, OnOk, drop, length};
 ghost use Rattle.std.specs.List.{concat};
 ghost use Rattle.ll_session.specs.Output.{unsent};
 ghost use Rattle.ll_wire.specs.Parts.{bytes_of};
 
 use crate::left::Left;
-use ll_wire::{Message, Slices};
+use ll_wire::{Response, Slices};
 use std::alloc::{AllocError, Global};
 use std::collections::VecDeque;
 use std::marker::Model;
 
-/// Answers in the order in which they are sent. The first may have lost its first bytes.
+/// Answers in the order in which they are sent, of which the first may have been sent in part.
 #[derive(Drop)]
 pub(crate) struct Output {
     answers: VecDeque<Left>,
@@ -25,7 +25,7 @@ impl Model for Output {
 }
 
 impl Output {
-    /// Nothing was put out.
+    /// Returns an empty output.
     pub(crate) fn new(alloc: Global) -> Output
         ensures { result ≡ [] }
     {
@@ -34,8 +34,8 @@ impl Output {
         }
     }
 
-    /// Puts out one more answer. No byte of it is copied.
-    pub(crate) fn push(&mut self, response: Message) -> Result<(), AllocError>
+    /// Adds an answer, without copying it.
+    pub(crate) fn push(&mut self, response: Response) -> Result<(), AllocError>
         ensures ok { OnOk result (self.new ≡ self.old ++ bytes_of response ∷ []) }
         ensures err { OnErr result (self.new ≡ self.old) }
     {
@@ -43,7 +43,7 @@ impl Output {
         Ok(())
     }
 
-    /// Puts out all of these too.
+    /// Adds all answers of `more`.
     pub(crate) fn append(&mut self, mut more: Output) -> Result<(), AllocError>
         ensures ok { OnOk result (self.new ≡ self.old ++ more) }
         ensures err { OnErr result (self.new ≡ self.old) }
@@ -51,7 +51,7 @@ impl Output {
         self.answers.append(&mut more.answers)
     }
 
-    /// The bytes of the first one that are left.
+    /// Returns the bytes that are left of the first answer, or `None` if there is no answer.
     pub(crate) fn first(&self) -> Option<Slices<'_>>
         ensures { MatchOption result (self.now ≡ []) (λ first. self.now ≡ first ∷ drop 1 self.now) }
     {
@@ -61,7 +61,7 @@ impl Output {
         }
     }
 
-    /// A copy of the bytes of all of them.
+    /// Returns a copy of all bytes that are left.
     pub(crate) fn copy(&self, alloc: Global) -> Result<Vec<u8>, AllocError>
         ensures { IfOk result (λ bytes. bytes.items ≡ concat self.now) }
     {
@@ -72,7 +72,7 @@ impl Output {
         Ok(bytes)
     }
 
-    /// So many bytes of them were sent; where there are no more, all.
+    /// Drops the first `n` bytes, which were sent, or all if there are fewer.
     pub(crate) fn drop_front(&mut self, n: usize)
         ensures { self.new ≡ unsent n self.old }
     {
@@ -82,7 +82,8 @@ impl Output {
         }
     }
 
-    /// So many bytes were sent: the first answer goes, where all of it is among them, and so many are then still to be dropped.
+    /// Drops the first answer if it has at most `n` bytes, and returns how many are still to be dropped; otherwise drops its first `n`
+    /// bytes, and returns `None`.
     fn drop_one(&mut self, n: usize) -> Option<usize>
         ensures { MatchOption result (self.new ≡ unsent n self.old)
             (λ rest. (unsent rest self.new ≡ unsent n self.old) × (length self.new < length self.old)) }
@@ -97,14 +98,14 @@ impl Output {
         Some(n - length)
     }
 
-    /// The first one was sent, or what was left of it.
+    /// Drops the first answer, or what is left of it.
     pub(crate) fn drop_first(&mut self)
         ensures { self.new ≡ drop 1 self.old }
     {
         self.answers.pop_front();
     }
 
-    /// Forgets all of them.
+    /// Drops all answers.
     pub(crate) fn clear(&mut self)
         ensures { self.new ≡ [] }
     {

@@ -1,4 +1,4 @@
-//! One connection's session.
+//! The session of one HTTP/1.1 connection (RFC 9112).
 ghost use Rattle.std.specs.Prelude.{◌≡◌, ◌≢◌, ◌++◌, ◌≤◌, ◌∷◌, [], IfOk, IsSome, MatchOption, OnErr, OnOk, drop, false, is_some, length, nat_lt};
 ghost use Rattle.std.specs.List.{concat};
 ghost use Rattle.ll_wire.specs.Response.{response_bytes};
@@ -12,11 +12,11 @@ use ll_wire::{Answer, HeadFault, Slices, response};
 use std::alloc::{AllocError, Global};
 use std::marker::Model;
 
-/// As many bytes may wait while a want is out.
+/// The most bytes that wait while a want is out.
 const MOST_WAITING: usize = 16_384;
 
-/// The session of one connection: the bytes that came, the want that is out, and the answers that are to be sent. It must be spent by
-/// [`Session::end`]; one that is let go before is a failed proof.
+/// The session of one connection: the bytes that weren't read yet, whether a want is out, and the answers that are to be sent.
+/// [`Session::end`] must consume it: to drop it before is a failed proof.
 pub struct Session {
     alloc: Global,
     unread: Vec<u8>,
@@ -33,7 +33,7 @@ impl Model for Session {
     ghost view = { λ s. record { unread = s.unread.items; answers = s.output; out = s.out; shut = s.shut } };
 }
 
-/// Only an ended one may be let go.
+/// Only a session that has ended can be dropped.
 impl Drop for Session {
     ghost use Rattle.std.specs.Prelude.{◌≡◌, [], IsTrue};
 
@@ -51,7 +51,7 @@ impl Drop for Session {
 }
 
 impl Session {
-    /// The session of a connection on which nothing came yet.
+    /// Returns the session of a new connection.
     pub fn new(alloc: Global) -> Session
         ensures { result ≡ talk.fresh }
     {
@@ -64,9 +64,9 @@ impl Session {
         }
     }
 
-    /// These bytes came. While no want is out, they are kept, however many they are. While one is out, and the bytes that wait (those
-    /// kept and these) are more than 16,384, HeadTooLarge is put out in place of the want's answer, and the session shuts; a piece of
-    /// no bytes looks for that too. Once it has shut, bytes are ignored. It fails where no memory is found, and then changes nothing.
+    /// Takes in `piece`, bytes that came. While no want is out, they are kept, however many they are. If one is out, and the bytes
+    /// kept and these are together more than 16,384, HeadTooLarge is put out in place of the want's answer, and the session shuts; an
+    /// empty piece checks that too. A session that has shut ignores `piece`. If this fails, nothing has changed.
     pub fn feed(&mut self, piece: &[u8]) -> Result<(), AllocError>
         ensures ok { OnOk result (self.new ≡ talk.fed self.old piece.now) }
         ensures err { OnErr result (self.new ≡ self.old) }
@@ -80,9 +80,9 @@ impl Session {
         self.unread.extend_from_slice(piece)
     }
 
-    /// The next want, which then is out; nothing while one is out, once the session has shut, and where no whole head is there. What is
-    /// refused before it, a head or a target, is answered by itself; after a head that is refused, or a target whose request doesn't
-    /// keep the connection, the session shuts. It fails where no memory is found, and then changes nothing.
+    /// Returns the next want, which is then out. Answers by itself each head or target before it that is refused, and shuts after such
+    /// a head, or after such a target whose request doesn't keep the connection. Returns `None` if a want is out, the session has
+    /// shut, or no want follows in the bytes so far. If this fails, nothing has changed.
     pub fn next_want(&mut self) -> Result<Option<Want>, AllocError>
         ensures ok { OnOk result (self.new ≡ talk.pulled self.old) }
         ensures want { IfOk result (λ want. want ≡ talk.next_want self.old) }
@@ -110,8 +110,8 @@ impl Session {
         }
     }
 
-    /// Puts out the answer to the want that is out. Where its request doesn't keep the connection, the session shuts. It fails where
-    /// no memory is found, and then changes nothing.
+    /// Puts out the answer to the want that is out. If its request doesn't keep the connection, the session shuts. If this fails,
+    /// nothing has changed.
     pub fn answered(&mut self, answer: &Answer) -> Result<(), AllocError>
         requires { IsSome self.old.out }
         ensures ok { OnOk result (self.new ≡ talk.replied self.old answer.now) }
@@ -125,7 +125,7 @@ impl Session {
         Ok(())
     }
 
-    /// Puts out the last answer, and shuts.
+    /// Puts out `answer`, the last one, and shuts.
     fn put_last(&mut self, answer: &Answer) -> Result<(), AllocError>
         ensures ok { OnOk result (self.new ≡ talk.shuts self.old (response_bytes answer.now false)) }
         ensures err { OnErr result (self.new ≡ self.old) }
@@ -137,7 +137,7 @@ impl Session {
         Ok(())
     }
 
-    /// No memory was found to go on: what was put out can still be sent, nothing more is put out, and the session shuts.
+    /// Shuts the session of a caller that is out of memory: what was put out can still be sent, and nothing more is put out.
     pub fn mute(&mut self)
         ensures { self.new ≡ talk.muted self.old }
     {
@@ -146,49 +146,49 @@ impl Session {
         self.shut = true;
     }
 
-    /// A copy of the bytes that were put out and not sent.
+    /// Returns a copy of the bytes that were put out and not sent.
     pub fn output(&self) -> Result<Vec<u8>, AllocError>
         ensures { IfOk result (λ bytes. bytes.items ≡ concat self.now.answers) }
     {
         self.output.copy(self.alloc)
     }
 
-    /// What is left of the first answer that was put out and not sent; nothing, where all is sent.
+    /// Returns what is left of the first answer that wasn't sent, or `None` if all were.
     pub fn first_answer(&self) -> Option<Slices<'_>>
         ensures { MatchOption result (self.now.answers ≡ []) (λ first. self.now.answers ≡ first ∷ drop 1 self.now.answers) }
     {
         self.output.first()
     }
 
-    /// The first bytes of the output were sent, so many, or all, where there are no more.
+    /// Drops the first `n` bytes of the output, which were sent, or all if there are fewer.
     pub fn sent(&mut self, n: usize)
         ensures { self.new ≡ talk.sent self.old n }
     {
         self.output.drop_front(n);
     }
 
-    /// The first answer of the output was sent, or what was left of it.
+    /// Drops what is left of the output's first answer, which was sent.
     pub fn first_sent(&mut self)
         ensures { self.new ≡ record self.old { answers = drop 1 self.old.answers } }
     {
         self.output.drop_first();
     }
 
-    /// Whether the session has shut: no want is out, and none will come.
+    /// Returns whether the session has shut: no want is out, and none will come.
     pub fn shut(&self) -> bool
         ensures { result ≡ self.now.shut }
     {
         self.shut
     }
 
-    /// Whether a want is out.
+    /// Returns whether a want is out.
     pub fn waiting(&self) -> bool
         ensures { result ≡ is_some self.now.out }
     {
         self.out.is_some()
     }
 
-    /// Ends the session, whatever it has come to.
+    /// Ends the session in any state, and drops what wasn't sent.
     pub fn end(mut self) {
         self.unread.clear();
         self.output.clear();
@@ -196,14 +196,14 @@ impl Session {
     }
 }
 
-/// Whether these together are more bytes than may wait.
+/// Returns whether `unread` and `piece` together are more bytes than are allowed to wait.
 fn are_too_many(unread: &[u8], piece: &[u8]) -> bool
     ensures { result ≡ nat_lt 16384 (length (unread.now ++ piece.now)) }
 {
     unread.len() > MOST_WAITING || piece.len() > MOST_WAITING - unread.len()
 }
 
-/// Drops the first bytes.
+/// Drops the first `n` bytes.
 fn drop_front(bytes: &mut Vec<u8>, n: usize)
     requires { n ≤ length bytes.old.items }
     ensures { bytes.new.items ≡ drop n bytes.old.items }

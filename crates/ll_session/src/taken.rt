@@ -1,4 +1,4 @@
-//! What is taken from the front of a connection's bytes.
+//! Takes requests from the front of a connection's bytes.
 ghost use Rattle.std.specs.Prelude.{◌≡◌, ◌≢◌, ◌≤◌, ◌++◌, ◌∷◌, [], IfOk, None, Some, OnOk, drop, false, length, true};
 ghost use Rattle.ll_wire.specs.Response.{response_bytes};
 ghost use Rattle.ll_session.specs.Requests.{wanted};
@@ -10,18 +10,20 @@ use ll_directive::{TargetFault, Want, read_target};
 use ll_wire::{Answer, Head, next_head, response};
 use std::alloc::{AllocError, Global};
 
-/// What was taken: the answers to what is refused, then perhaps a want, with whether the connection is kept after it.
+/// What was taken: answers to requests that are refused, and then at most one want.
 #[derive(Drop)]
 pub(crate) struct Taken {
-    /// How many bytes were taken.
+    /// The number of bytes that were taken.
     pub(crate) at: usize,
+    /// The answers to what was refused.
     pub(crate) told: Output,
+    /// The want, and whether the connection is kept after it.
     pub(crate) want: Option<(Want, bool)>,
     /// Whether a refusal ends the connection.
     pub(crate) ends: bool,
 }
 
-/// Whether nothing can be taken from the front of these bytes: no whole head is there. It takes no memory.
+/// Returns whether `unread` begins with no whole head, so that nothing can be taken.
 #[tactic(auto, using(crate::proofs::TakingLemmas::none_taken, crate::proofs::TakingLemmas::some_taken))]
 pub(crate) fn is_unfinished(unread: &[u8]) -> bool
     ensures nothing { result ≡ true → taking unread.now ≡ nothing_in unread.now }
@@ -34,7 +36,7 @@ pub(crate) fn is_unfinished(unread: &[u8]) -> bool
     }
 }
 
-/// Takes the requests at the front of these bytes up to the first want.
+/// Takes the requests at the front of `unread`, up to the first want.
 pub(crate) fn take_front(alloc: Global, unread: &[u8]) -> Result<Taken, AllocError>
     ensures within { IfOk result (λ t. t.at ≤ length unread.now) }
     ensures stands { IfOk result (λ t. AddsUp (taking unread.now) t.told (record {
@@ -67,7 +69,7 @@ pub(crate) fn take_front(alloc: Global, unread: &[u8]) -> Result<Taken, AllocErr
     }
 }
 
-/// Nothing more is there.
+/// Returns what was taken if no whole head follows.
 fn nothing(at: usize, told: Output) -> Taken
     ensures { result ≡ record { at = at; told = told; want = None; ends = false } }
 {
@@ -79,7 +81,7 @@ fn nothing(at: usize, told: Output) -> Taken
     }
 }
 
-/// A refusal ends the connection.
+/// Returns what was taken if a refusal ends the connection.
 fn ending(at: usize, told: Output) -> Taken
     ensures { result ≡ record { at = at; told = told; want = None; ends = true } }
 {
@@ -91,7 +93,7 @@ fn ending(at: usize, told: Output) -> Taken
     }
 }
 
-/// A want is there.
+/// Returns what was taken if a want comes last.
 fn want_at(at: usize, told: Output, want: Want, keep: bool) -> Taken
     ensures { result ≡ record { at = at; told = told; want = Some (want, keep); ends = false } }
 {
@@ -103,7 +105,7 @@ fn want_at(at: usize, told: Output, want: Want, keep: bool) -> Taken
     }
 }
 
-/// What a target wants, or its first fault. Memory that isn't found is no fault of the target.
+/// Returns what `target` wants, or its first fault. To be out of memory is no fault of the target.
 #[tactic(auto, unfolding(crate::specs::Requests::wanted))]
 fn read_want(alloc: Global, target: &[u8]) -> Result<Result<Want, TargetFault>, AllocError>
     ensures { IfOk result (λ read. read ≡ wanted target.now) }
@@ -114,14 +116,14 @@ fn read_want(alloc: Global, target: &[u8]) -> Result<Result<Want, TargetFault>, 
     }
 }
 
-/// Puts out an answer.
+/// Adds the response with `answer` to `told`.
 fn tell(alloc: Global, told: &mut Output, answer: &Answer, keep: bool) -> Result<(), AllocError>
     ensures { OnOk result (told.new ≡ told.old ++ response_bytes answer.now keep ∷ []) }
 {
     told.push(response(alloc, answer, keep)?)
 }
 
-/// The bytes from this place on.
+/// Returns the bytes from `at` on.
 fn from(bytes: &[u8], at: usize) -> &[u8]
     requires { at ≤ length bytes.now }
     ensures { result.now ≡ drop at bytes.now }

@@ -6,15 +6,15 @@ use Rattle.std.specs.List.{flat_map}
 use Rattle.std.specs.Option.{unwrap_or}
 use borrow.Author.Tests.{ltb-false, le-ltb}
 use Rattle.ll_mp4.specs.Boxes.{Header, header_of}
-use Rattle.ll_mp4.specs.declared.boxes.Head.{Head}
+use Rattle.ll_mp4.specs.declared.boxes.BoxHead.{BoxHead}
 use Rattle.ll_mp4.proofs.MoreLemmas.{Same, header-same}
 use Rattle.ll_shift.specs.Pieces.{Box, Front, Pieces, after_front, each, front, front_by, pieces, whole}
 use Rattle.ll_shift.proofs.PieceLemmas.{after_fewer, each_more, none_left, pieces_done, pieces_more}
 
 -- ---- the front box
 
--- the front box that has this header, and what stands after it
-abbrev pub front_at : Head → List ℕ → Front
+-- the front box that has this header, and the bytes after it
+abbrev pub front_at : BoxHead → List ℕ → Front
 front_at head bytes = record {
   box = record { kind = head.kind; header = take head.len (take head.size bytes); content = drop head.len (take head.size bytes) };
   after = drop head.size bytes;
@@ -25,7 +25,7 @@ and_more f more = record { box = f.box; after = f.after ++ more }
 
 -- what the front box was found to be
 pub record Found (h : Header) (bytes : List ℕ) (f : Front) : Type 0 where
-  pub head : Head
+  pub head : BoxHead
   pub is : h ≡ Ok (Some head)
   pub full : head.size ≤ length bytes
   pub same : front_at head bytes ≡ f
@@ -44,10 +44,10 @@ found_by (Ok (Some head)) bytes f e = by_size (nat_lt (length bytes) head.size) 
       same = ap (λ o. unwrap_or o (front_at head bytes)) is;
     }
 
-pub front_of : (bytes : List ℕ) (head : Head) → header_of bytes ≡ Ok (Some head) → head.size ≤ length bytes → front bytes ≡ Some (front_at head bytes)
+pub front_of : (bytes : List ℕ) (head : BoxHead) → header_of bytes ≡ Ok (Some head) → head.size ≤ length bytes → front bytes ≡ Some (front_at head bytes)
 front_of bytes head e l = ap (λ h. front_by h bytes) e ∙ rw (le-ltb (length bytes) head.size l) refl
 
-front-at-more : (head : Head) (bytes more : List ℕ) → head.size ≤ length bytes → front_at head (bytes ++ more) ≡ and_more (front_at head bytes) more
+front-at-more : (head : BoxHead) (bytes more : List ℕ) → head.size ≤ length bytes → front_at head (bytes ++ more) ≡ and_more (front_at head bytes) more
 front-at-more head bytes more l =
     ap₂ (λ t d. record { box = record { kind = head.kind; header = take head.len t; content = drop head.len t }; after = d })
     (take-append-le head.size bytes more l) (drop-append-le head.size bytes more l)
@@ -61,7 +61,7 @@ front_more bytes more f e =
     front_of (bytes ++ more) found.head same (omega (arith, found.full, sum))
     ∙ ap Some (front-at-more found.head bytes more found.full ∙ ap (λ g. and_more g more) found.same)
 
--- the front box and what stands after it are all bytes
+-- the front box and the bytes after it are all bytes
 pub front_whole : (bytes : List ℕ) (f : Front) → front bytes ≡ Some f → whole f.box ++ f.after ≡ bytes
 front_whole bytes f e =
     let found = found_by (header_of bytes) bytes f e in

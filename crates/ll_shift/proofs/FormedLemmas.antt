@@ -1,4 +1,4 @@
--- The boxes of some bytes tell their sizes, and a header with the same size is the same header.
+-- The boxes of some bytes state their sizes, and a header with the same size is the same header.
 use Rattle.std.proofs.Common.{◌≡◌, ℕ, zero, suc, ◌+◌, ◌<◌, ◌≤◌, ◌==◌, List, [], ◌∷◌, ◌++◌, Bool, true, false, Option, Some, None, Ok, Err, refl, ap, ap₂, sym, subst, ◌∙◌, length, take, drop, nat_lt, if◌then◌else◌, length-append, length-drop, take-append-drop, arith}
 use Rattle.std.proofs.lemmas.Bool.{eqb-true}
 use Rattle.std.proofs.lemmas.List.{drop-take, length-take-le, take-take}
@@ -8,8 +8,8 @@ use borrow.Author.Tests.{ltb-false}
 use Rattle.byteorder.specs.Endian.{big_bytes, big_number}
 use Rattle.byteorder.specs.Numbers.{big_from-take}
 use Rattle.ll_mp4.specs.Boxes.{Header, header_by, header_of, large_header, sized}
-use Rattle.ll_mp4.specs.declared.boxes.Head.{Head}
-use Rattle.ll_mp4.specs.declared.fault.Fault.TheVariants.{BadBox}
+use Rattle.ll_mp4.specs.declared.boxes.BoxHead.{BoxHead}
+use Rattle.ll_mp4.specs.declared.fault.StreamFault.TheVariants.{BadBox}
 use Rattle.ll_shift.specs.Laws.{AreBytes}
 use Rattle.ll_shift.specs.Moved.{total}
 use Rattle.ll_shift.specs.Pieces.{Box, Front, Pieces, after_front, each, front, grown, pieces, resized, whole}
@@ -17,24 +17,24 @@ use Rattle.ll_shift.proofs.AppendLemmas.{front_at, found_by, front_whole}
 use Rattle.ll_shift.proofs.ByteLemmas.{number_bytes}
 use Rattle.ll_shift.proofs.PieceLemmas.{after_fewer, each_more, each_done, none_left, pieces_done, pieces_more}
 
--- ---- a header tells its size
+-- ---- a header states its size
 
-data Form (bytes : List ℕ) (head : Head) : Type 0 where
+data Form (bytes : List ℕ) (head : BoxHead) : Type 0 where
   Short : head.kind ≡ big_number 4 (drop 4 bytes) → head.len ≡ 8 → head.size ≡ big_number 4 bytes → 8 ≤ head.size → Form bytes head
   Long :
       head.kind ≡ big_number 4 (drop 4 bytes) → head.len ≡ 16 → big_number 4 bytes ≡ 1 → head.size ≡ big_number 8 (drop 8 bytes) → 16 ≤ head.size
       → Form bytes head
 
-abbrev head-or : Head → Header → Head
+abbrev head-or : BoxHead → Header → BoxHead
 head-or other (Ok (Some head)) = head
 head-or other (Ok None) = other
 head-or other (Err fault) = other
 
-record Sized (kind len size : ℕ) (head : Head) : Type 0 where
+record Sized (kind len size : ℕ) (head : BoxHead) : Type 0 where
   is : record { kind = kind; len = len; size = size } ≡ head
   least : len ≤ size
 
-sized-is : (kind len size : ℕ) (head : Head) → sized kind len size ≡ Ok (Some head) → Sized kind len size head
+sized-is : (kind len size : ℕ) (head : BoxHead) → sized kind len size ≡ Ok (Some head) → Sized kind len size head
 sized-is kind len size head = by_size (nat_lt size len) refl
   where
     by_size : (b : Bool) → nat_lt size len ≡ b
@@ -43,12 +43,12 @@ sized-is kind len size head = by_size (nat_lt size len) refl
     by_size true k e = absurd (cc)
     by_size false k e = record { is = ap (head-or (record { kind = kind; len = len; size = size })) e; least = ltb-false size len k }
 
-short-form : (bytes : List ℕ) (head : Head) → sized (big_number 4 (drop 4 bytes)) 8 (big_number 4 bytes) ≡ Ok (Some head) → Form bytes head
+short-form : (bytes : List ℕ) (head : BoxHead) → sized (big_number 4 (drop 4 bytes)) 8 (big_number 4 bytes) ≡ Ok (Some head) → Form bytes head
 short-form bytes head e =
     let s = sized-is (big_number 4 (drop 4 bytes)) 8 (big_number 4 bytes) head e in
     subst (λ h. Form bytes h) s.is (Short refl refl refl s.least)
 
-long-form : (bytes : List ℕ) (head : Head) → big_number 4 bytes ≡ 1 → large_header bytes ≡ Ok (Some head) → Form bytes head
+long-form : (bytes : List ℕ) (head : BoxHead) → big_number 4 bytes ≡ 1 → large_header bytes ≡ Ok (Some head) → Form bytes head
 long-form bytes head one = by_length (nat_lt (length bytes) 16)
   where
     by_length : (b : Bool)
@@ -58,7 +58,7 @@ long-form bytes head one = by_length (nat_lt (length bytes) 16)
         let s = sized-is (big_number 4 (drop 4 bytes)) 16 (big_number 8 (drop 8 bytes)) head e in
         subst (λ h. Form bytes h) s.is (Long refl refl one refl s.least)
 
-form-of : (bytes : List ℕ) (head : Head) → header_of bytes ≡ Ok (Some head) → Form bytes head
+form-of : (bytes : List ℕ) (head : BoxHead) → header_of bytes ≡ Ok (Some head) → Form bytes head
 form-of bytes head = by_length (nat_lt (length bytes) 8)
   where
     by_large : (b : Bool) → (big_number 4 bytes == 1) ≡ b
@@ -98,14 +98,14 @@ long-same bytes size h e least l =
     (ap (big_bytes 8) e ∙ number_bytes 8 (drop 8 bytes) (All-drop (λ b. b < 256) 8 bytes h) (omega (arith, least, l, d)) ∙ sym (drop-take 8 8 bytes))
     ∙ take-append-drop 8 (take 16 bytes) ∙ sym t
 
-form-same : (bytes : List ℕ) (head : Head) → AreBytes bytes → head.size ≤ length bytes → Form bytes head
+form-same : (bytes : List ℕ) (head : BoxHead) → AreBytes bytes → head.size ≤ length bytes → Form bytes head
     → resized (take head.len (take head.size bytes)) head.size ≡ take head.len (take head.size bytes)
 form-same bytes head h l (Short kind len size least) =
     subst (λ n. resized (take n (take head.size bytes)) head.size ≡ take n (take head.size bytes)) (sym len) (short-same bytes head.size h size least l)
 form-same bytes head h l (Long kind len one size least) =
     subst (λ n. resized (take n (take head.size bytes)) head.size ≡ take n (take head.size bytes)) (sym len) (long-same bytes head.size h size least l)
 
-form-least : (bytes : List ℕ) (head : Head) → head.size ≤ length bytes → Form bytes head → 8 ≤ length (take head.len (take head.size bytes))
+form-least : (bytes : List ℕ) (head : BoxHead) → head.size ≤ length bytes → Form bytes head → 8 ≤ length (take head.len (take head.size bytes))
 form-least bytes head l (Short kind len size least) =
     let t = length-take-le head.size bytes l in
     let h = length-take-le head.len (take head.size bytes) (omega (arith, t, len, least)) in
@@ -122,7 +122,7 @@ pub data Shape (b : Box) : Type 0 where
   ShortHeader : length b.header ≡ 8 → b.kind ≡ big_number 4 (drop 4 b.header) → Shape b
   LongHeader : length b.header ≡ 16 → b.kind ≡ big_number 4 (drop 4 b.header) → big_number 4 b.header ≡ 1 → Shape b
 
-shape-of : (bytes : List ℕ) (head : Head) → head.size ≤ length bytes → Form bytes head → Shape (front_at head bytes).box
+shape-of : (bytes : List ℕ) (head : BoxHead) → head.size ≤ length bytes → Form bytes head → Shape (front_at head bytes).box
 shape-of bytes head l (Short kind len size least) =
     let header : take head.len (take head.size bytes) ≡ take 8 bytes = ap (λ n. take n (take head.size bytes)) len ∙ take-take 8 head.size bytes least in
     ShortHeader (ap length header ∙ length-take-le 8 bytes (omega (arith, l, least)))
@@ -139,7 +139,7 @@ pub record Formed (b : Box) : Type 0 where
   pub same : grown b 0 ≡ b.header
   pub bytes : AreBytes b.content
 
-formed-at : (bytes : List ℕ) (head : Head) → AreBytes bytes → header_of bytes ≡ Ok (Some head) → head.size ≤ length bytes → Formed (front_at head bytes).box
+formed-at : (bytes : List ℕ) (head : BoxHead) → AreBytes bytes → header_of bytes ≡ Ok (Some head) → head.size ≤ length bytes → Formed (front_at head bytes).box
 formed-at bytes head h e l =
     let header = take head.len (take head.size bytes) in
     let content = drop head.len (take head.size bytes) in
@@ -154,7 +154,7 @@ formed-at bytes head h e l =
       bytes = All-drop (λ b. b < 256) head.len (take head.size bytes) (All-take (λ b. b < 256) head.size bytes h);
     }
 
--- the front box and what stands after it
+-- the front box and the bytes after it
 front-formed : (bytes : List ℕ) (f : Front) → AreBytes bytes → front bytes ≡ Some f → Formed f.box
 front-formed bytes f h e =
     let found = found_by (header_of bytes) bytes f e in
@@ -185,7 +185,7 @@ formed (suc n) bytes l h =
 pub all_formed : (bytes : List ℕ) → AreBytes bytes → AllFormed (pieces bytes).boxes
 all_formed bytes h = formed (length bytes) bytes (omega arith) h
 
--- boxes as they stand are the bytes
+-- unchanged boxes are the bytes
 whole-by : (bytes : List ℕ) (o : Option Front) → front bytes ≡ o → ((f : Front) → front bytes ≡ Some f → each whole f.after ≡ f.after) → each whole bytes ≡ bytes
 whole-by bytes None e later = each_done whole bytes e
 whole-by bytes (Some f) e later = each_more whole bytes f e ∙ ap (λ l. whole f.box ++ l) (later f e) ∙ front_whole bytes f e

@@ -1,4 +1,4 @@
--- How long boxes are as they are moved.
+-- The lengths of moved boxes.
 use Rattle.std.proofs.Common.{◌≡◌, ℕ, ◌+◌, ◌-◌, ◌^◌, ◌≤◌, ◌==◌, ◌&&◌, ◌||◌, not, List, [], ◌∷◌, ◌++◌, Bool, true, false, Option, Some, None, refl, ap, subst, sym, ◌∙◌, length, take, drop, nat_lt, slice_index, if◌then◌else◌, length-append, length-drop, arith}
 use Rattle.std.proofs.lemmas.Bool.{eqb-true}
 use Rattle.std.proofs.lemmas.List.{length-take-le}
@@ -87,7 +87,7 @@ target_length place time true wide content l full = let s = spliced place 8 8 1 
 target_length place time false true content l full = let s = spliced place 4 8 1 time content l full in omega (arith, s)
 target_length place time false false content l full = let s = spliced place 4 4 0 time content l full in omega (arith, s)
 
--- a box that is made tells its size, and is so many bytes longer
+-- a box that is made states its size, and is longer by this number of bytes
 pub record Made (b : Box) (more : ℕ) (made : List ℕ) : Type 0 where
   pub told : Told b made
   pub size : length made ≡ length (whole b) + more
@@ -126,7 +126,7 @@ timed_made shift (Some scale) place b l f = timed-by-made shift scale place b (f
 
 -- ---- what is made of boxes
 
--- boxes of which each gets so much longer
+-- boxes of which each grows by its number of bytes
 made-length : (make : Box → List ℕ) (count : Box → ℕ) (boxes : List Box) → AllFormed boxes → ((b : Box) → Formed b → length (make b) ≡ length (whole b) + count b)
     → length (flat_map make boxes) ≡ length (flat_map whole boxes) + total count boxes
 made-length make count [] all each-one = refl

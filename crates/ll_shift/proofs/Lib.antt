@@ -1,3 +1,4 @@
+-- Lemmas of boxes with moved times, and their laws.
 mod AppendLemmas
 mod ByteLemmas
 mod FormedLemmas

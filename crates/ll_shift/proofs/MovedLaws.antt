@@ -1,4 +1,4 @@
--- What becomes of boxes that stand one after another.
+-- Boxes one after another, moved.
 use Rattle.std.proofs.Common.{◌≡◌, ◌||◌, List, [], ◌++◌, Bool, true, false, ℕ, refl, ap, ◌∙◌, if◌then◌else◌}
 use Rattle.ll_mp4.specs.declared.kind.Kind.TheVariants.{Moof, Sidx, Mfra, Prft, Emsg}
 use Rattle.ll_mp4.specs.declared.track.TimeScale.{TimeScale}
@@ -11,7 +11,7 @@ use Rattle.ll_shift.proofs.AppendLemmas.{each_append, each_front}
 pub one_after_another : OneAfterAnother
 one_after_another shift scales before after whole_before = each_append (moved_box shift scales) before after whole_before
 
--- a box that may not change is none of those that are moved or left out
+-- a box that can't change is none of those that are moved or left out
 last-case : (m p e s f : Bool) (moof prft emsg other : List ℕ) → (m || p || e || s || f) ≡ false
     → (if s || f then [] else if m then moof else if p then prft else if e then emsg else other) ≡ other
 last-case false false false false false moof prft emsg other h = refl

@@ -6,13 +6,13 @@ use borrow.Author.Tests.{le-ltb}
 use Rattle.byteorder.specs.Endian.{big_bytes, big_number}
 use Rattle.byteorder.specs.Numbers.{big_from-append, big_from-take, big_number-reads_back, length-bytes_high_first}
 use Rattle.ll_mp4.specs.Boxes.{header_by, header_of, large_header, sized}
-use Rattle.ll_mp4.specs.declared.boxes.Head.{Head}
+use Rattle.ll_mp4.specs.declared.boxes.BoxHead.{BoxHead}
 use Rattle.ll_shift.specs.Pieces.{Box, Front, Pieces, after_front, each, front, pieces, resized}
 use Rattle.ll_shift.proofs.AppendLemmas.{front_of}
 use Rattle.ll_shift.proofs.FormedLemmas.{Shape, ShortHeader, LongHeader, resized_long, resized_short}
 use Rattle.ll_shift.proofs.PieceLemmas.{after_fewer, each_done, none_left, pieces_done, pieces_more}
 
-abbrev head-of : Box → ℕ → Head
+abbrev head-of : Box → ℕ → BoxHead
 head-of b size = record { kind = b.kind; len = length b.header; size = size }
 
 whole-size : (kind len size : ℕ) → len ≤ size → sized kind len size ≡ Ok (Some (record { kind = kind; len = len; size = size }))

@@ -1,4 +1,4 @@
--- The boxes of some bytes are the front one and those of what stands after it.
+-- The boxes of some bytes are the front one and those of the bytes after it.
 use Rattle.std.proofs.Common.{◌≡◌, ℕ, zero, suc, ◌+◌, ◌≤◌, ◌==◌, ◌&&◌, not, List, [], ◌∷◌, ◌++◌, Bool, true, false, Some, None, Ok, Err, refl, ap, sym, ◌∙◌, length, drop, nat_lt, length-drop, append_assoc, arith}
 use Rattle.std.specs.List.{flat_map}
 use Rattle.byteorder.specs.Endian.{big_number}
@@ -12,7 +12,7 @@ use Rattle.ll_mp4.specs.declared.kind.Kind.TheVariants.{Traf}
 
 -- ---- a box has a byte at least
 
--- a header that is one belongs to a box of so many bytes or more
+-- a header without a fault belongs to a box of at least n bytes
 abbrev pub AtLeast : ℕ → Header → Type 0
 AtLeast n (Ok None) = 0 ≤ 0
 AtLeast n (Ok (Some head)) = n ≤ head.size
@@ -46,7 +46,7 @@ header_least bytes = by_length (nat_lt (length bytes) 8) refl
     by_length true e = rw e (omega arith)
     by_length false e = rw e (by-least (big_number 4 bytes) bytes)
 
--- fewer bytes stand after the front box
+-- fewer bytes follow the front box
 after-by : (n : ℕ) (bytes : List ℕ) (h : Header) → AtLeast 8 h → length bytes ≤ suc n → length (after_front (front_by h bytes)) ≤ n
 after-by n bytes (Ok None) a l = omega arith
 after-by n bytes (Err fault) a l = omega arith
@@ -115,7 +115,7 @@ turn_done shift scales more first bytes e = ap (λ (p : Pieces). moved_in_turn s
 
 -- ---- one step of a loop over boxes
 
--- so much was counted, and one box more
+-- the sum so far, and one box more
 pub total_step : (count : Box → ℕ) (bytes : List ℕ) (f : Front) (sum here : ℕ) → front bytes ≡ Some f → here ≡ count f.box
     → sum + total count (pieces bytes).boxes ≡ sum + here + total count (pieces f.after).boxes
 total_step count bytes f sum here e is_here = let m = total_more count bytes f e in omega (arith, m, is_here)
@@ -123,7 +123,7 @@ total_step count bytes f sum here e is_here = let m = total_more count bytes f e
 pub total_end : (count : Box → ℕ) (bytes : List ℕ) (sum : ℕ) → front bytes ≡ None → sum + total count (pieces bytes).boxes ≡ sum
 total_end count bytes sum e = let d = total_done count bytes e in omega (arith, d)
 
--- so much was written, and one box more
+-- the bytes written so far, and one box more
 pub each_step : (make : Box → List ℕ) (bytes : List ℕ) (f : Front) (out next : List ℕ) → front bytes ≡ Some f → next ≡ out ++ make f.box
     → out ++ each make bytes ≡ next ++ each make f.after
 each_step make bytes f out next e is_next =

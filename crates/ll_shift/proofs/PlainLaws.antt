@@ -1,4 +1,4 @@
--- Nothing but times changes: box by box, what becomes of a box is read as one that is the same but for its times.
+-- Only times change: box by box, a moved box is read as one that is the same but for its times.
 use Rattle.std.proofs.Common.{◌≡◌, ℕ, ◌+◌, ◌^◌, ◌<◌, ◌≤◌, ◌==◌, ◌&&◌, ◌||◌, not, List, [], ◌∷◌, ◌++◌, Bool, true, false, Option, Some, None, refl, ap, sym, ◌∙◌, length, nat_lt, slice_index, if◌then◌else◌, length-append, append_assoc, arith}
 use Rattle.std.proofs.lemmas.Bool.{and_parts, eqb-true, not-true}
 use Rattle.std.specs.List.{flat_map}
@@ -22,11 +22,11 @@ use Rattle.ll_shift.proofs.PlainLemmas.{event_again, moved_content, offset_again
 
 -- ---- one box
 
--- what becomes of a box is read as a box that is the same but for its times
+-- a moved box is read as a box that is the same but for its times
 abbrev Step : (Box → List ℕ) → Box → List ℕ → Type 0
 Step plain b made = (rest : List ℕ) → each plain (made ++ rest) ≡ plain b ++ each plain rest
 
--- what is made of a box has another content, and tells its size
+-- what is made of a box has another content, and states its size
 abbrev Exact : Box → List ℕ → List ℕ → Type 0
 Exact b content made = made ≡ resized b.header (length b.header + length content) ++ content
 
@@ -209,7 +209,7 @@ boxes-plain shift scales more moof h few =
 
 -- ---- boxes at the top
 
--- what stands of a box at the top
+-- what is kept of a box at the top
 abbrev stands : Box → List ℕ → List ℕ
 stands b content =
     if is Moof b then each plain_in_moof content

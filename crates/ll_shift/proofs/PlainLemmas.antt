@@ -1,4 +1,4 @@
--- Nothing but times changes in a box.
+-- Only times change in a box.
 use Rattle.std.proofs.Common.{◌≡◌, ℕ, ◌+◌, ◌-◌, ◌^◌, ◌≤◌, ◌==◌, ◌&&◌, ◌||◌, not, List, ◌∷◌, ◌++◌, Bool, true, false, Option, Some, None, refl, ap, ap₂, sym, ◌∙◌, length, take, drop, nat_lt, slice_index, if◌then◌else◌, length-append, length-drop, append_assoc, arith}
 use Rattle.std.proofs.lemmas.List.{drop_at, length-take-le, take_at}
 use Rattle.std.specs.Option.{unwrap_or}
@@ -19,7 +19,7 @@ use Rattle.ll_shift.proofs.LengthLemmas.{Fits, field_fits, offset_by}
 abbrev written : ℕ → ℕ → ℕ → ℕ → ℕ → List ℕ → List ℕ
 written version place new old time content = version ∷ take (place - 1) (drop 1 content) ++ (big_bytes new time ++ drop (place + old) content)
 
--- what stands before it and after it
+-- the bytes before it and after it
 around : (version place new old time : ℕ) (content : List ℕ) → 1 ≤ place → place + old ≤ length content
     → take (place - 1) (drop 1 (written version place new old time content)) ++ drop (place + new) (written version place new old time content)
     ≡ take (place - 1) (drop 1 content) ++ drop (place + old) content
@@ -72,9 +72,9 @@ target-again place time true wide content l full = long-again place 8 time conte
 target-again place time false true content l full = long-again place 4 time content l full
 target-again place time false false content l full = short-again place time content l full
 
--- ---- what becomes of a content
+-- ---- a moved content
 
--- a content with its time moved, where it has one
+-- a content with its time moved, if it has one
 abbrev pub moved_content : ℕ → List ℕ → Option Target → List ℕ
 moved_content place content None = content
 moved_content place content (Some t) = with_target place t content

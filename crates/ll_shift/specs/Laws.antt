@@ -1,4 +1,4 @@
--- The laws of what is published.
+-- The laws of moved boxes.
 use Rattle.std.specs.Prelude.{◌≡◌, ℕ, ◌+◌, ◌<◌, ◌||◌, Bool, false, if◌then◌else◌, All, List, [], ◌∷◌, ◌++◌, length, Option, Some, ⊤}
 use Rattle.ll_mp4.specs.declared.kind.Kind.TheVariants.{Moof, Sidx, Mfra, Prft, Emsg}
 use Rattle.ll_mp4.specs.declared.track.TimeScale.{TimeScale}
@@ -10,17 +10,17 @@ use Rattle.ll_shift.specs.declared.shift.Shift.{Shift}
 abbrev pub AreBoxes : List ℕ → Type 0
 AreBoxes bytes = (pieces bytes).rest ≡ []
 
--- What becomes of boxes doesn't hang on those that come before them or after them: so it is the same in whatever runs of boxes they come.
+-- Each box is moved by itself, whatever comes before or after it: so moving has the same result in whatever runs boxes come.
 abbrev pub OneAfterAnother : Type 0
 OneAfterAnother =
     (shift : Shift) (scales : List TimeScale) (before after : List ℕ) → AreBoxes before
     → moved shift scales (before ++ after) ≡ moved shift scales before ++ moved shift scales after
 
--- whether a box of this type may change
+-- whether a box of this type can change
 abbrev pub may_change : Box → Bool
 may_change b = is Moof b || is Prft b || is Emsg b || is Sidx b || is Mfra b
 
--- Every other box, as those with samples, stands as it was, after what becomes of the boxes before it and before what becomes of those after it.
+-- Every other box, such as one with samples, stays as it was, after the moved boxes before it and before those after it.
 abbrev pub OthersStand : Type 0
 OthersStand =
     (shift : Shift) (scales : List TimeScale) (before other after : List ℕ) (b : Box) → AreBoxes before
@@ -34,7 +34,7 @@ AreBytes bytes = All (λ b. b < 256) bytes
 abbrev pub without_indexes : List ℕ → List ℕ
 without_indexes bytes = each (λ b. if is Sidx b || is Mfra b then [] else whole b) bytes
 
--- Nothing else changes where a run begins at 0 in a rendition that ends at 0.
+-- If a run begins at 0 in a rendition that ends at 0, nothing else changes.
 abbrev pub NothingMoves : Type 0
 NothingMoves =
     (shift : Shift) (scales : List TimeScale) (bytes : List ℕ) → shift.base ≡ 0 → shift.end ≡ 0 → AreBytes bytes
@@ -42,7 +42,7 @@ NothingMoves =
 
 -- ---- sizes
 
--- what is made of a box has its header, but for the size, which is that of what is made
+-- what is made of a box has its header, except for the size, which is the new one
 abbrev pub Told : Box → List ℕ → Type 0
 Told b made = (content : List ℕ) × (made ≡ resized b.header (length b.header + length content) ++ content)
 
@@ -50,7 +50,7 @@ abbrev pub Every : (Box → Type 0) → List Box → Type 0
 Every P [] = ⊤
 Every P (b ∷ boxes) = P b × Every P boxes
 
--- Every box that is published tells the size that it has: those at the top, those of a `moof`, and those of a `traf`.
+-- Every box that is written states its own size: boxes at the top, in a `moof`, and in a `traf`.
 pub record SizesAreTold : Type 0 where
   pub at_top :
       (shift : Shift) (scales : List TimeScale) (bytes : List ℕ) → AreBytes bytes

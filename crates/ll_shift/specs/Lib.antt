@@ -1,3 +1,4 @@
+-- Definitions of boxes with moved times.
 pub mod Found
 pub mod Laws
 pub mod Moved

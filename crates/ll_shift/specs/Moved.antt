@@ -1,4 +1,4 @@
--- The bytes of a part as they are published: the times of its fragments go on from where the rendition stands.
+-- The bytes of a part as they are published: the times of its fragments continue from the end of the rendition.
 use Rattle.std.specs.Prelude.{ℕ, ◌+◌, ◌==◌, ◌&&◌, ◌||◌, Bool, true, false, not, List, [], ◌∷◌, ◌++◌, take, drop, length, nat_lt, slice_index, if◌then◌else◌, Option, Some, None}
 use Rattle.byteorder.specs.Endian.{big_bytes, big_number}
 use Rattle.ll_mp4.specs.Boxes.{Contents, Ended, Broken, Content, contents_in}
@@ -17,11 +17,11 @@ is kind b = b.kind == code kind
 
 -- ---- the header of a track's fragment (section 8.8.7)
 
--- the number of 32 bits at a place, where it stands there
+-- the 32-bit number at a place, if it is there
 abbrev pub word_at : ℕ → List ℕ → Option ℕ
 word_at place bytes = if nat_lt (length bytes) (place + 4) then None else Some (big_number 4 (drop place bytes))
 
--- a number that the first box of a type has
+-- the number at a place of the first box of a type
 abbrev pub first_word : ℕ → Contents → Option ℕ
 first_word place Ended = None
 first_word place Broken = None
@@ -31,12 +31,12 @@ abbrev pub scale_by : List TimeScale → Option ℕ → Option ℕ
 scale_by scales None = None
 scale_by scales (Some id) = scale_of id scales
 
--- the ticks a second of a fragment's track, where it is one that is known
+-- the number of ticks in a second of a fragment's track, if the track is known
 abbrev pub scale_in : List TimeScale → List ℕ → Option ℕ
 scale_in scales traf = scale_by scales (first_word 4 (contents_in Tfhd traf))
 
--- Whether the runs of a track's fragment tell how far their samples are from the `moof`: not where flags say that they count from a place that is
--- told, and in the first of a `moof` or where flags say so.
+-- Whether the runs of a track's fragment count the places of their samples from the `moof`: not if flags say that a base data offset is present;
+-- otherwise in the first of a `moof`, or if flags say so.
 abbrev pub counts_by : Bool → Option ℕ → Bool
 counts_by first None = false
 counts_by first (Some flags) = not (has flags 0x000001) && (first || has flags 0x020000)
@@ -46,11 +46,11 @@ counts_from_moof first traf = counts_by first (first_word 0 (contents_in Tfhd tr
 
 -- ---- a run (section 8.8.8)
 
--- it has the offset of its data
+-- whether a run has the offset of its data
 abbrev pub has_offset : List ℕ → Bool
 has_offset trun = not (nat_lt (length trun) 12) && has (big_number 4 trun) 0x000001
 
--- one whose samples stand `more` bytes later, modulo 2^32
+-- a run whose samples are `more` bytes later, modulo 2^32
 abbrev pub later : ℕ → Box → List ℕ
 later more b =
     if has_offset b.content then b.header ++ (take 8 b.content ++ (big_bytes 4 (big_number 4 (drop 8 b.content) + more) ++ drop 12 b.content))
@@ -58,11 +58,11 @@ later more b =
 
 -- ---- a track's fragment (section 8.8.6)
 
--- how many bytes more a box of it has
+-- the number of bytes by which a box in it grows
 abbrev pub box_growth : Shift → Option ℕ → Box → ℕ
 box_growth shift scale b = if is Tfdt b then growth (target_at shift scale 4 b.content) else 0
 
--- so much in all
+-- the sum of these over all boxes
 abbrev pub total : (Box → ℕ) → List Box → ℕ
 total f [] = 0
 total f (b ∷ boxes) = f b + total f boxes
@@ -70,7 +70,7 @@ total f (b ∷ boxes) = f b + total f boxes
 abbrev pub traf_growth : Shift → List TimeScale → List ℕ → ℕ
 traf_growth shift scales traf = total (box_growth shift (scale_in scales traf)) (pieces traf).boxes
 
--- a box of it, by its track's ticks a second and by how many bytes later its samples stand
+-- a box in it, by the ticks in a second of its track and the number of bytes by which its samples are later
 abbrev pub moved_in_traf : Shift → Option ℕ → ℕ → Box → List ℕ
 moved_in_traf shift scale more b =
     if is Tfdt b then timed shift scale 4 b
@@ -83,19 +83,19 @@ moved_traf shift scales more b =
 
 -- ---- a fragment (section 8.8.4)
 
--- how many bytes more a box of it has
+-- the number of bytes by which a box in it grows
 abbrev pub growth_in_moof : Shift → List TimeScale → Box → ℕ
 growth_in_moof shift scales b = if is Traf b then traf_growth shift scales b.content else 0
 
 abbrev pub moof_growth : Shift → List TimeScale → List ℕ → ℕ
 moof_growth shift scales moof = total (growth_in_moof shift scales) (pieces moof).boxes
 
--- a box of one, by how many bytes more it has; the first of its tracks' fragments, or another
+-- a box in it, by the number of bytes by which the fragment grows; `first` says whether no track's fragment came before
 abbrev pub moved_in_moof : Shift → List TimeScale → ℕ → Bool → Box → List ℕ
 moved_in_moof shift scales more first b =
     if is Traf b then moved_traf shift scales (if counts_from_moof first b.content then more else 0) b else whole b
 
--- boxes of it, where a track's fragment is still to come, or came before them
+-- the boxes in it; `first` says whether no track's fragment came before
 abbrev pub moved_in_turn : Shift → List TimeScale → ℕ → Bool → List Box → List ℕ
 moved_in_turn shift scales more first [] = []
 moved_in_turn shift scales more first (b ∷ boxes) =
@@ -110,11 +110,11 @@ moved_moof shift scales b =
 
 -- ---- boxes beside it
 
--- the time at which a fragment was made has that of its reference track beside it (section 8.16.5)
+-- a `prft` has the time at which a fragment was made, and the time of its reference track, which is moved (section 8.16.5)
 abbrev pub moved_prft : Shift → List TimeScale → Box → List ℕ
 moved_prft shift scales b = timed shift (scale_by scales (word_at 4 b.content)) 16 b
 
--- an event of version 1 has its own ticks a second (ISO/IEC 23009-1, section 5.10.3.3); one of version 0 has no time of its own
+-- an event of version 1 has its own time scale (ISO/IEC 23009-1, section 5.10.3.3); one of version 0 has no time of its own
 abbrev pub moved_emsg : Shift → Box → List ℕ
 moved_emsg shift b = if slice_index b.content 0 == 1 then timed shift (word_at 4 b.content) 8 b else whole b
 
@@ -129,6 +129,6 @@ moved_box shift scales b =
     else if is Emsg b then moved_emsg shift b
     else whole b
 
--- what isn't a whole box at the end is as it is
+-- all boxes; what isn't a whole box at the end stays as it is
 abbrev pub moved : Shift → List TimeScale → List ℕ → List ℕ
 moved shift scales bytes = each (moved_box shift scales) bytes

@@ -1,4 +1,5 @@
--- What a shift leaves alone: all but the times, and the sizes and offsets that hang on how many bytes they take.
+-- What a shift leaves alone: all but the times, and the sizes and offsets that depend on how many bytes they
+-- take.
 use Rattle.std.specs.Prelude.{◌≡◌, ℕ, ◌+◌, ◌-◌, ◌^◌, ◌<◌, ◌==◌, ◌||◌, List, [], ◌++◌, take, drop, length, slice_index, if◌then◌else◌, Option, Some, None}
 use Rattle.byteorder.specs.Endian.{big_bytes}
 use Rattle.ll_mp4.specs.declared.kind.Kind.TheVariants.{Moof, Traf, Trun, Tfdt, Sidx, Mfra, Prft, Emsg}
@@ -10,7 +11,7 @@ use Rattle.ll_shift.specs.Times.{field_at, width}
 use Rattle.ll_shift.specs.declared.field.Field.{Field}
 use Rattle.ll_shift.specs.declared.shift.Shift.{Shift}
 
--- a content without its version and the time at a place, where it has one
+-- a content without its version and the time at a place, if it has one
 abbrev pub without_field : ℕ → List ℕ → Option Field → List ℕ
 without_field place content None = content
 without_field place content (Some field) = take (place - 1) (drop 1 content) ++ drop (place + width field.is_long) content
@@ -22,7 +23,7 @@ without_time place content = without_field place content (field_at place content
 abbrev pub without_offset : List ℕ → List ℕ
 without_offset trun = if has_offset trun then take 8 trun ++ drop 12 trun else trun
 
--- a box's type with another content, and how long that is
+-- a box's type with another content and its length
 abbrev pub tagged : Box → List ℕ → List ℕ
 tagged b content = big_bytes 4 b.kind ++ (big_bytes 8 (length content) ++ content)
 
@@ -47,7 +48,7 @@ plain_box b =
 abbrev pub plain : List ℕ → List ℕ
 plain bytes = each plain_box bytes
 
--- Nothing but times changes, where what is published is less than 4 GiB.
+-- Only times change, if the written bytes are less than 4 GiB.
 abbrev pub OnlyTimesChange : Type 0
 OnlyTimesChange =
     (shift : Shift) (scales : List TimeScale) (bytes : List ℕ) → AreBytes bytes → length (moved shift scales bytes) < 2 ^ 32

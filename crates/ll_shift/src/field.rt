@@ -1,4 +1,4 @@
-//! The fields in which boxes have times.
+//! The fields in which boxes have times: how they are read, and written with a moved time.
 ghost use Rattle.std.specs.Prelude.{◌≡◌, ◌++◌, ◌+◌, ◌≤◌, ◌^◌, IfOk, length};
 ghost use Rattle.byteorder.specs.Endian.{big_bytes};
 ghost use Rattle.ll_shift.specs.Found.{IsBox, box_of};
@@ -17,17 +17,17 @@ pub(crate) struct Field {
     pub(crate) time: u64,
 }
 
-/// The field that is written in the place of another.
+/// The field that replaces another.
 #[derive(Clone, Copy)]
 pub(crate) struct Target {
-    /// Whether the other has 64 bits, and not 32.
+    /// Whether the replaced field has 64 bits, and not 32.
     pub(crate) was_long: bool,
-    /// Whether this has 64 bits.
+    /// Whether this field has 64 bits, and not 32.
     pub(crate) is_long: bool,
     pub(crate) time: u64,
 }
 
-/// Reads the time at `place` of a content; none, where the content is too short for it or of a version that isn't known.
+/// Reads the time at `place` of `content`. Returns `None` if the content is too short for it or of an unknown version.
 fn read_field(place: usize, content: &[u8]) -> Option<Field>
     requires { place ≤ 16 }
     ensures { result ≡ spec.field_at place content.now }
@@ -48,7 +48,7 @@ fn read_field(place: usize, content: &[u8]) -> Option<Field>
     }
 }
 
-/// Returns what becomes of the time at `place` of a content, of a track with `scale` ticks a second; none, where it has no time or the track isn't
+/// Returns the moved time at `place` of `content`, of a track with `scale` ticks in a second, or `None` if it has no time or the track isn't
 /// known.
 pub(crate) fn find_target(
     shift: &Shift,
@@ -69,7 +69,7 @@ pub(crate) fn find_target(
     })
 }
 
-/// Returns how many bytes more a field has.
+/// Returns the number of bytes by which a field grows: 4 if it grows to 64 bits, else 0.
 pub(crate) fn growth(target: Option<Target>) -> u64
     ensures told { result ≡ spec.growth target }
     ensures few { result ≤ 4 }
@@ -80,7 +80,7 @@ pub(crate) fn growth(target: Option<Target>) -> u64
     }
 }
 
-/// Adds a box whose time stands at `place` of its content to `out`, moved.
+/// Appends `piece`, a box with a time at `place` of its content, to `out`, with its time moved.
 pub(crate) fn push_timed(
     out: &mut Vec<u8>,
     shift: &Shift,
@@ -100,7 +100,7 @@ pub(crate) fn push_timed(
     push_target(out, place, target, piece.content)
 }
 
-/// Adds a content to `out` with `target` in the place of the time at `place`.
+/// Appends `content` to `out`, with `target` in place of the time at `place`.
 fn push_target(
     out: &mut Vec<u8>,
     place: usize,
@@ -118,7 +118,7 @@ fn push_target(
     out.extend_from_slice(&content[place + width(target.was_long)..])
 }
 
-/// Adds the time of `target` to `out`.
+/// Appends the time of `target` to `out`.
 fn push_time(out: &mut Vec<u8>, target: Target) -> Result<(), AllocError>
     ensures { IfOk result (λ _. out.new.items ≡ out.old.items ++ big_bytes (spec.width target.is_long) target.time) }
 {
@@ -129,7 +129,7 @@ fn push_time(out: &mut Vec<u8>, target: Target) -> Result<(), AllocError>
     }
 }
 
-/// Returns how many bytes a field has.
+/// Returns the length of a field, in bytes.
 fn width(is_long: bool) -> usize
     ensures { result ≡ spec.width is_long }
 {

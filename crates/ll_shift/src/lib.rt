@@ -1,4 +1,4 @@
-//! The times of an encoder's fragments (ISO/IEC 14496-12), moved so that they go on from where a rendition stands.
+//! Moves the times of an encoder's fragments (ISO/IEC 14496-12) so that they continue from the end of a rendition.
 #![tactic(auto)]
 
 mod field;

@@ -1,4 +1,4 @@
-//! Fragments (section 8.8.4).
+//! Moves the times of a fragment (section 8.8.4).
 ghost use Rattle.std.specs.Prelude.{◌==◌, ◌&&◌, not, ◌≡◌, ◌++◌, ◌≤◌, ◌^◌, IfOk, length, true};
 ghost use Rattle.ll_mp4.specs.Kinds.{code};
 ghost use Rattle.ll_mp4.specs.declared.kind.Kind.{Kind};
@@ -11,7 +11,7 @@ use crate::traf::{counts_from_moof, push_traf, traf_growth};
 use ll_mp4::{Kind, TimeScale};
 use std::alloc::AllocError;
 
-/// Adds a fragment to `out`, moved.
+/// Appends a fragment to `out`, with its times moved.
 pub(crate) fn push_moof(
     out: &mut Vec<u8>,
     shift: &Shift,
@@ -26,7 +26,7 @@ pub(crate) fn push_moof(
     push_boxes(out, shift, scales, more, piece.content)
 }
 
-/// Returns how many bytes more a fragment has.
+/// Returns the number of bytes by which a fragment grows.
 fn moof_growth(shift: &Shift, scales: &[TimeScale], moof: &[u8]) -> u64
     ensures told { result ≡ spec.moof_growth shift.now scales.now moof.now }
     ensures few { result ≤ length moof.now }
@@ -40,7 +40,7 @@ fn moof_growth(shift: &Shift, scales: &[TimeScale], moof: &[u8]) -> u64
     sum
 }
 
-/// Returns how many bytes more a box of it has.
+/// Returns the number of bytes by which a box in a fragment grows.
 fn box_growth(shift: &Shift, scales: &[TimeScale], piece: Piece<'_>) -> u64
     ensures told { result ≡ spec.growth_in_moof shift.now scales.now (box_of piece.entry) }
     ensures few { result ≤ length piece.entry.content.now }
@@ -51,7 +51,7 @@ fn box_growth(shift: &Shift, scales: &[TimeScale], piece: Piece<'_>) -> u64
     traf_growth(shift, scales, piece.content)
 }
 
-/// Adds the boxes of a fragment that gets `more` bytes more to `out`, moved.
+/// Appends the boxes of a fragment to `out`, with their times moved; the fragment grows by `more` bytes.
 fn push_boxes(
     out: &mut Vec<u8>,
     shift: &Shift,
@@ -72,14 +72,15 @@ fn push_boxes(
     out.extend_from_slice(rest)
 }
 
-/// Returns whether no track's fragment has come after a box of this type, where `first` says whether none came before it.
+/// Returns whether no track's fragment has come after a box of type `kind`; `first` says whether none came before it.
 fn still_first(first: bool, kind: u32) -> bool
     ensures { result ≡ (first && not (kind == code Kind.Traf)) }
 {
     first && kind != Kind::Traf.code()
 }
 
-/// Adds a box of a fragment to `out`, moved, where `first` says whether no track's fragment came before it.
+/// Appends a box of a fragment to `out`, moved; `first` says whether no track's fragment came before it, and the
+/// fragment grows by `more` bytes.
 fn push_box(
     out: &mut Vec<u8>,
     shift: &Shift,

@@ -1,4 +1,4 @@
-//! The bytes of a part as they are published.
+//! Moves the times of a part, as it is published.
 ghost use Rattle.std.specs.Prelude.{◌≡◌, ◌++◌, IfOk};
 ghost use Rattle.ll_shift.specs.Found.{IsBox, box_of};
 ghost use Rattle.ll_shift.specs.Moved as spec;
@@ -12,14 +12,14 @@ use crate::traf::{scale_by, word_at};
 use ll_mp4::{Kind, TimeScale};
 use std::alloc::AllocError;
 
-/// Where the time stands in the content of a `prft` (section 8.16.5).
+/// The place of the time in the content of a `prft` (section 8.16.5).
 const PRFT_PLACE: usize = 16;
-/// Where the time stands in the content of an `emsg` of version 1 (ISO/IEC 23009-1, section 5.10.3.3).
+/// The place of the time in the content of an `emsg` of version 1 (ISO/IEC 23009-1, section 5.10.3.3).
 const EMSG_PLACE: usize = 8;
 
-/// Adds the boxes of `bytes` to `out`, moved: the times in them go on from where the rendition stands, and the indexes of segments and fragments,
-/// whose numbers would be wrong, are left out. `scales` are the time scales of the movie's tracks. It fails where no memory is found, and `out` then
-/// holds some of them.
+/// Appends the boxes of `bytes` to `out` with their times moved, so that they continue from the end of the rendition. Leaves out the indexes of
+/// segments and fragments, whose numbers would be wrong. `scales` are the time scales of the movie's tracks. If it fails, `out` has some of the
+/// boxes.
 pub fn push_moved(
     out: &mut Vec<u8>,
     shift: &Shift,
@@ -36,7 +36,7 @@ pub fn push_moved(
     out.extend_from_slice(rest)
 }
 
-/// Adds a box to `out`, moved, where it isn't left out.
+/// Appends a box to `out`, with its times moved, unless it is left out.
 fn push_box(
     out: &mut Vec<u8>,
     shift: &Shift,
@@ -62,7 +62,7 @@ fn push_box(
     push_whole(out, piece)
 }
 
-/// Adds an event to `out`, moved where it is of version 1, with its own ticks a second.
+/// Appends an event to `out`. One of version 1, which has its own time scale, has its time moved.
 fn push_event(out: &mut Vec<u8>, shift: &Shift, piece: Piece<'_>) -> Result<(), AllocError>
     requires { IsBox (box_of piece) }
     ensures { IfOk result (λ _. out.new.items ≡ out.old.items ++ spec.moved_emsg shift.now (box_of piece.entry)) }

@@ -1,4 +1,4 @@
-//! Boxes (section 4.2).
+//! Cuts bytes into boxes and writes boxes again (section 4.2).
 ghost use Rattle.std.specs.Prelude.{◌≡◌, ◌++◌, ◌+◌, ◌≤◌, ◌<◌, IfOk, IfSome, length};
 ghost use Rattle.byteorder.specs.Endian.{big_bytes};
 ghost use Rattle.ll_shift.specs.Found.{IsBox, box_of, cut};
@@ -9,17 +9,17 @@ use byteorder::{BigEndian, ByteOrder};
 use ll_mp4::read_head;
 use std::alloc::AllocError;
 
-/// A box, and what stands after it.
+/// A box, and the bytes after it.
 #[derive(Clone, Copy)]
 pub(crate) struct Piece<'a> {
-    /// The four bytes of its type as a number, the highest first.
+    /// The four bytes of its type as a big-endian number.
     pub(crate) kind: u32,
     pub(crate) header: &'a [u8],
     pub(crate) content: &'a [u8],
     pub(crate) rest: &'a [u8],
 }
 
-/// Returns the box at the front of some bytes, where it is whole.
+/// Returns the box at the front of `bytes`, if it is whole.
 pub(crate) fn cut_front(bytes: &[u8]) -> Option<Piece<'_>>
     ensures told { front bytes.now ≡ cut result }
     ensures proper { IfSome result (λ p. IsBox (box_of p)) }
@@ -41,7 +41,7 @@ pub(crate) fn cut_front(bytes: &[u8]) -> Option<Piece<'_>>
     })
 }
 
-/// Adds a box as it stands to `out`.
+/// Appends a box to `out`, unchanged.
 pub(crate) fn push_whole(out: &mut Vec<u8>, piece: Piece<'_>) -> Result<(), AllocError>
     ensures { IfOk result (λ _. out.new.items ≡ out.old.items ++ spec.whole (box_of piece.entry)) }
 {
@@ -49,7 +49,7 @@ pub(crate) fn push_whole(out: &mut Vec<u8>, piece: Piece<'_>) -> Result<(), Allo
     out.extend_from_slice(piece.content)
 }
 
-/// Adds the header of a box that gets `more` bytes more to `out`.
+/// Appends the header of a box that grows by `more` bytes to `out`.
 pub(crate) fn push_grown(out: &mut Vec<u8>, piece: Piece<'_>, more: u64) -> Result<(), AllocError>
     requires proper { IsBox (box_of piece) }
     requires few { more ≤ length piece.content.now }
@@ -64,7 +64,7 @@ pub(crate) fn push_grown(out: &mut Vec<u8>, piece: Piece<'_>, more: u64) -> Resu
     out.extend_from_slice(&piece.header[4..])
 }
 
-/// Adds the lowest 32 bits of `number` to `out`.
+/// Appends the lowest 32 bits of `number` to `out`, big-endian.
 pub(crate) fn push_word(out: &mut Vec<u8>, number: u64) -> Result<(), AllocError>
     ensures { IfOk result (λ _. out.new.items ≡ out.old.items ++ big_bytes 4 number) }
 {
@@ -73,7 +73,7 @@ pub(crate) fn push_word(out: &mut Vec<u8>, number: u64) -> Result<(), AllocError
     out.extend_from_slice(&bytes[4..])
 }
 
-/// Adds the 64 bits of `number` to `out`.
+/// Appends the 64 bits of `number` to `out`, big-endian.
 pub(crate) fn push_long(out: &mut Vec<u8>, number: u64) -> Result<(), AllocError>
     ensures { IfOk result (λ _. out.new.items ≡ out.old.items ++ big_bytes 8 number) }
 {

@@ -1,20 +1,20 @@
-//! Times.
+//! How one time is moved.
 ghost use Rattle.std.specs.Prelude.{◌≡◌};
 ghost use Rattle.ll_shift.specs.Times as spec;
 
-/// How the times of a run of fragments are moved: the tick of a movie's governing track at which the run begins is moved to where the rendition ends.
+/// The move of the times of a run of fragments: the tick of the movie's governing track at which the run begins is moved to the end of the rendition.
 #[derive(Clone, Copy, Debug, PartialEq, Eq)]
 pub struct Shift {
-    /// The governing track's tick at which the run begins.
+    /// The tick of the governing track at which the run begins.
     pub base: u64,
-    /// How many ticks a second of that track has; never 0.
+    /// The number of ticks in a second of that track, never 0.
     pub scale: u32,
-    /// Where the rendition ends as the run begins, in microseconds.
+    /// The end of the rendition as the run begins, in microseconds.
     pub end: u64,
 }
 
 impl Shift {
-    /// Returns `time` of a track with `scale` ticks a second, moved: 0 if that is negative, and 2^64 - 1 at most.
+    /// Returns `time`, of a track with `scale` ticks in a second, moved: 0 if that is negative, and at most 2^64 - 1.
     pub fn moved_time(&self, scale: u32, time: u64) -> u64
         ensures { result ≡ spec.moved_time self.now scale time }
     {
@@ -23,7 +23,7 @@ impl Shift {
         moved.min(u64::MAX as u128) as u64
     }
 
-    /// Returns where the run begins, in the ticks of a track with `scale` a second.
+    /// Returns the beginning of the run in ticks of a track with `scale` in a second.
     fn base_in(&self, scale: u32) -> u128
         ensures { result ≡ spec.base_in self.now scale }
     {

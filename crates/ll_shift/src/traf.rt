@@ -1,4 +1,4 @@
-//! The fragment of a track (section 8.8.6).
+//! Moves the times of a track's fragment, and the offsets of its samples (section 8.8.6).
 ghost use Rattle.std.specs.Prelude.{◌≡◌, ◌++◌, ◌+◌, ◌≤◌, ◌^◌, IfOk, length};
 ghost use Rattle.ll_mp4.specs.Boxes.{contents_in};
 ghost use Rattle.ll_mp4.specs.Movies.{scale_of};
@@ -14,17 +14,17 @@ use byteorder::{BigEndian, ByteOrder};
 use ll_mp4::{Kind, TimeScale, next_of};
 use std::alloc::AllocError;
 
-/// In a track fragment's header (section 8.8.7): the offset from which data is counted stands.
+/// Flag of a track fragment's header (section 8.8.7): the base data offset is present.
 const BASE_OFFSET: u32 = 0x00_0001;
-/// In a track fragment's header: offsets of data are counted from the `moof`.
+/// Flag of a track fragment's header: offsets of data are counted from the `moof`.
 const FROM_MOOF: u32 = 0x02_0000;
-/// In a run (section 8.8.8): the offset of its data stands.
+/// Flag of a run (section 8.8.8): the offset of its data is present.
 const DATA_OFFSET: u32 = 0x00_0001;
 
-/// Where the decode time stands in the content of its box (section 8.8.12).
+/// The place of the decode time in the content of its box (section 8.8.12).
 const TIME_PLACE: usize = 4;
 
-/// Reads the number of 32 bits at `place`, where it stands there.
+/// Reads the 32-bit number at byte `place`, if it is there.
 pub(crate) fn word_at(place: usize, bytes: &[u8]) -> Option<u32>
     requires { place ≤ 16 }
     ensures { result ≡ spec.word_at place bytes.now }
@@ -35,7 +35,7 @@ pub(crate) fn word_at(place: usize, bytes: &[u8]) -> Option<u32>
     Some(BigEndian::read_u32(&bytes[place..]))
 }
 
-/// Reads the number of 32 bits at `place` of the header of a track's fragment (section 8.8.7).
+/// Reads the 32-bit number at byte `place` of the header of a track's fragment (section 8.8.7).
 fn header_word(place: usize, traf: &[u8]) -> Option<u32>
     requires { place ≤ 16 }
     ensures { result ≡ spec.first_word place (contents_in Kind.Tfhd traf.now) }
@@ -46,7 +46,7 @@ fn header_word(place: usize, traf: &[u8]) -> Option<u32>
     }
 }
 
-/// Returns how many ticks a second a track has, where its ID is told and is one of those that are known.
+/// Returns the number of ticks in a second of the track with this ID, if it is one of the known tracks `scales`.
 pub(crate) fn scale_by(scales: &[TimeScale], id: Option<u32>) -> Option<u32>
     ensures { result ≡ spec.scale_by scales.now id }
 {
@@ -56,7 +56,7 @@ pub(crate) fn scale_by(scales: &[TimeScale], id: Option<u32>) -> Option<u32>
     }
 }
 
-/// Returns how many ticks a second the first track with the ID `id` has.
+/// Returns the number of ticks in a second of the first track with the ID `id`.
 fn scale_of(scales: &[TimeScale], id: u32) -> Option<u32>
     ensures { result ≡ scale_of id scales.now }
 {
@@ -66,14 +66,15 @@ fn scale_of(scales: &[TimeScale], id: u32) -> Option<u32>
         .map(|track| track.scale)
 }
 
-/// Returns how many ticks a second a fragment's track has, where it is known.
+/// Returns the number of ticks in a second of the track of the fragment `traf`, if the track is known.
 fn scale_in(scales: &[TimeScale], traf: &[u8]) -> Option<u32>
     ensures { result ≡ spec.scale_in scales.now traf.now }
 {
     scale_by(scales, header_word(4, traf))
 }
 
-/// Returns whether the runs of a track's fragment tell how far their samples are from the `moof`, where `first` says whether it is the first there.
+/// Returns whether the runs of a track's fragment count the places of their samples from the `moof`; `first` says whether it is the first fragment
+/// there.
 pub(crate) fn counts_from_moof(first: bool, traf: &[u8]) -> bool
     ensures { result ≡ spec.counts_from_moof first traf.now }
 {
@@ -83,7 +84,7 @@ pub(crate) fn counts_from_moof(first: bool, traf: &[u8]) -> bool
     }
 }
 
-/// Returns how many bytes more a track's fragment has.
+/// Returns the number of bytes by which a track's fragment grows.
 pub(crate) fn traf_growth(shift: &Shift, scales: &[TimeScale], traf: &[u8]) -> u64
     ensures told { result ≡ spec.traf_growth shift.now scales.now traf.now }
     ensures few { result ≤ length traf.now }
@@ -98,7 +99,7 @@ pub(crate) fn traf_growth(shift: &Shift, scales: &[TimeScale], traf: &[u8]) -> u
     sum
 }
 
-/// Returns how many bytes more a box of it has.
+/// Returns the number of bytes by which a box in it grows.
 fn box_growth(shift: &Shift, scale: Option<u32>, piece: Piece<'_>) -> u64
     ensures told { result ≡ spec.box_growth shift.now scale (box_of piece.entry) }
     ensures few { result ≤ 4 }
@@ -109,7 +110,7 @@ fn box_growth(shift: &Shift, scale: Option<u32>, piece: Piece<'_>) -> u64
     growth(find_target(shift, scale, TIME_PLACE, piece.content))
 }
 
-/// Adds a track's fragment to `out`, moved, whose samples stand `more` bytes later.
+/// Appends a track's fragment to `out`, with its times moved and its samples `more` bytes later.
 pub(crate) fn push_traf(
     out: &mut Vec<u8>,
     shift: &Shift,
@@ -126,7 +127,7 @@ pub(crate) fn push_traf(
     push_boxes(out, shift, scale_in(scales, traf), more, traf)
 }
 
-/// Adds the boxes of a track's fragment with `scale` ticks a second to `out`, moved.
+/// Appends the boxes of a track's fragment, whose track has `scale` ticks in a second, to `out`, with their times moved.
 fn push_boxes(
     out: &mut Vec<u8>,
     shift: &Shift,
@@ -145,7 +146,7 @@ fn push_boxes(
     out.extend_from_slice(rest)
 }
 
-/// Adds a box of a track's fragment to `out`, moved.
+/// Appends a box of a track's fragment to `out`, with its time moved.
 fn push_box(
     out: &mut Vec<u8>,
     shift: &Shift,
@@ -166,7 +167,7 @@ fn push_box(
     push_whole(out, piece)
 }
 
-/// Adds a run to `out` whose samples stand `more` bytes later (section 8.8.8).
+/// Appends a run whose samples are `more` bytes later to `out` (section 8.8.8).
 fn push_run(out: &mut Vec<u8>, more: u64, piece: Piece<'_>) -> Result<(), AllocError>
     requires { more ≤ 2 ^ 63 }
     ensures { IfOk result (λ _. out.new.items ≡ out.old.items ++ spec.later more (box_of piece.entry)) }

@@ -9,7 +9,7 @@ length-last n xs h = length-drop (length xs - n) xs ∙ omega (arith, h)
 start : (n m len new : ℕ) → n ≤ len → m ≤ n + new → (len - n) + (n + new - m) ≡ len + new - m
 start n m len new a b = omega (arith, a, b)
 
--- what was given up before isn't wanted later
+-- what was dropped before isn't needed later
 pub last-grown : {A : Type 0} (n m : ℕ) (xs new : List A) → n ≤ length xs → m ≤ n + length new → last_of m (xs ++ new) ≡ last_of m (last_of n xs ++ new)
 last-grown n m xs new few less =
     let cut = length xs - n in
@@ -21,7 +21,7 @@ last-grown n m xs new few less =
     ∙ ap (λ ys. drop (n + length new - m) ys) (drop-append-le cut xs new early)
     ∙ ap (λ k. drop (k - m) (last_of n xs ++ new)) (sym kept)
 
--- without its first one, where more are left than are wanted
+-- without its first one, if more are left than are kept
 pub last_shorter : {A : Type 0} (n : ℕ) (xs : List A) → n < length xs → last_of n (drop 1 xs) ≡ last_of n xs
 last_shorter n xs h =
     ap (λ k. drop (k - n) (drop 1 xs)) (length-drop 1 xs)

@@ -1,4 +1,4 @@
--- The part that comes next: its bytes are there once it has come, and never where the rendition ends before.
+-- The part that comes next: its bytes are there once it has come, and never if the rendition ends before.
 use Rattle.std.proofs.Common.{◌≡◌, ℕ, zero, suc, ◌+◌, ◌-◌, ◌*◌, ◌≤◌, ◌<◌, ◌==◌, ◌&&◌, ◌||◌, Bool, true, false, cond, if◌then◌else◌, List, [], ◌∷◌, ◌++◌, Some, None, refl, ap, ap₂, sym, subst, ◌∙◌, append_assoc, length, length-append, length-drop, take, drop, nat_le, nat_lt, arith}
 use Rattle.std.specs.Prelude.{slice_get}
 use Rattle.std.specs.Option.{option_and_then}
@@ -78,7 +78,7 @@ last-found k s n index zs y e low high many is =
     ∙ ap₂ slice_get (append_assoc before (y ∷ []) (s.unfinished ∷ [])) (sym count)
     ∙ get-after before y (s.unfinished ∷ []))
 
--- ---- the window isn't empty where a segment is finished
+-- ---- the window isn't empty once a segment is finished
 
 some_by : (b : Bool) (xs : List Row) (x : Row) (ys : List Row) → 1 ≤ length xs → 1 ≤ length (cond b xs (x ∷ ys))
 some_by true xs x ys h = h
@@ -185,7 +185,7 @@ media_by c all m p false e =
     let s = store c all in
     ap (λ b. option_and_then (λ place. part_at (s.window ++ s.unfinished ∷ []) place p) (if b then Some (m - first_shown k) else None)) e
 
--- where a segment has no such part, there is no media of it
+-- if a segment has no such part, there is no media of it
 none-there : (c : Configuration) (all : List Item) (m p : ℕ) → (c.first ≤ m → part_at (all_bytes all) (m - c.first) p ≡ None) → media c all (what.Part m p) ≡ None
 none-there c all m p h = by (nat_le (first_shown (compact c all)) m) refl
   where
@@ -286,7 +286,7 @@ closed-same : (us : List (List ℕ)) (segments : List (List (List ℕ))) (k p : 
 closed-same [] segments k p = refl
 closed-same (b ∷ bs) segments k p = empty-last (segments ++ (b ∷ bs) ∷ []) k p
 
--- a part that isn't held, nor a later one, is never there where the rendition ends before it comes
+-- a part that isn't held, nor a later one, is never there if the rendition ends before it comes
 pub never : (c : Configuration) (items : List Item) (r m p : ℕ) → ended items ≡ false → holds_part c items m p ≡ false
     → media c (items ++ item.End r ∷ []) (what.Part m p) ≡ None
 never c items r m p going h =

@@ -1,4 +1,4 @@
--- The bytes of parts: one more offer, and as many as there are parts.
+-- The bytes of parts: with one more item, and that they are as many as the parts.
 use Rattle.std.proofs.Common.{◌≡◌, ℕ, suc, ◌+◌, Bool, true, false, List, [], ◌∷◌, ◌++◌, fold, refl, ap, ◌∙◌, length, length-append, arith}
 use Rattle.ll_item.specs.Told.{Told, finished_last, kept_part, start, step}
 use Rattle.ll_item.specs.declared.item.Item.{Item}
@@ -7,7 +7,7 @@ use Rattle.ll_item.specs.declared.part.Part.{Part}
 use Rattle.ll_window.specs.Segments.{parts, put_by, split}
 use Rattle.ll_store.specs.Parts.{before_parts, part_bytes, parts_in}
 
--- the bytes of an item, where it is a part
+-- the bytes of an item, if it is a part
 abbrev pub of_part : Item → List (List ℕ)
 of_part i = before_parts i []
 

@@ -1,4 +1,4 @@
--- What one more part makes of the bytes that are kept.
+-- The bytes that are kept after one more part.
 use Rattle.std.proofs.Common.{◌≡◌, ℕ, ◌+◌, Bool, true, false, List, [], ◌∷◌, ◌++◌, refl, ap, ap₂, sym, ◌∙◌, length, length-append, length-drop, take, drop, arith}
 use Rattle.std.proofs.lemmas.List.{append-nil, drop_all, take_all}
 use Rattle.std.proofs.lemmas.List.Sums.{fold-append}
@@ -88,7 +88,7 @@ other-finished os o parts_same ended_same bytes_same =
     ap₂ (λ (t : Told) bytes. groups_of t.ended (split t.parts) bytes) (told-snoc os o) bytes_same
     ∙ ap₂ (λ e ps. groups_of e (split ps) (part_bytes os)) ended_same parts_same
 
--- the end finishes the open segment, where it has a part
+-- the end finishes the open segment, if it has a part
 abbrev pub closed_with : List (List ℕ) → List (List (List ℕ)) → List (List (List ℕ))
 closed_with [] segments = segments
 closed_with (bytes ∷ more) segments = segments ++ (bytes ∷ more) ∷ []
@@ -117,7 +117,7 @@ end-finished os r e =
     ∙ closed_groups (split t.parts).finished (split t.parts).unfinished (part_bytes os) many
     ∙ ap (λ e. closed_with (open_of e (split t.parts) (part_bytes os)) (groups_of e (split t.parts) (part_bytes os))) (sym e)
 
--- a finish does so too; nothing of the groups is told by the parts' flags
+-- a finish does so too; the groups don't depend on the parts' flags
 grouped-lasts : (gs : List (List Part)) (us : List Part) (bytes : List (List ℕ)) → grouped (gs ++ closed (finished_last us)) bytes ≡ grouped (gs ++ closed us) bytes
 grouped-lasts gs [] bytes = refl
 grouped-lasts gs (p ∷ []) bytes = grouped-snoc gs (finished_last (p ∷ [])) bytes ∙ sym (grouped-snoc gs (p ∷ []) bytes)

@@ -1,4 +1,4 @@
--- What is kept of all items and one more is told by what is kept of the items before it.
+-- What is kept of all items and one more follows from what is kept of the items before it.
 use Rattle.std.proofs.Common.{◌≡◌, ℕ, ◌+◌, Bool, true, false, List, [], ◌∷◌, ◌++◌, refl, ap, ap₂, ◌∙◌, length, arith}
 use Rattle.std.proofs.lemmas.List.{drop_all}
 use Rattle.ll_item.specs.Settings.{Configuration}

@@ -1,4 +1,4 @@
--- What all renditions keep with one more item: that of its rendition goes on, the others stay.
+-- The stores of all renditions with one more item: that of its rendition changes, the others stay.
 use Rattle.std.proofs.Common.{◌≡◌, ◌≢◌, ℕ, zero, suc, ◌+◌, ◌<◌, List, [], ◌∷◌, ◌++◌, false, Some, refl, ap, ap₂, sym, ◌∙◌, length, arith}
 use Rattle.std.specs.Prelude.{slice_get, slice_set}
 use Rattle.std.specs.Option.{option_map_or}
@@ -63,7 +63,7 @@ store-got c items r h =
     let start : 0 + r ≡ r = omega arith in
     got-from c items 0 r c.renditions h ∙ ap (λ q. Some (store c (own q items))) start
 
--- what an item brings, where these renditions were kept before it
+-- what an item adds, if these renditions were kept before it
 abbrev pub arrival_of : List Rendition → Item → Arrival
 arrival_of before i = record { rendition = rendition_of i; map = map_at (rendition_of i) before; brought = brought_by i }
 

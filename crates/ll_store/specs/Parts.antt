@@ -1,4 +1,4 @@
--- The bytes of the parts of a rendition, as its segments have them.
+-- The bytes of the parts of a rendition, grouped by segments.
 use Rattle.std.specs.Prelude.{ℕ, ◌+◌, List, [], ◌∷◌, drop, length, take}
 use Rattle.ll_item.specs.declared.item.Item.{Item}
 use Rattle.ll_item.specs.declared.item.Item.TheVariants as item
@@ -19,7 +19,7 @@ abbrev pub part_bytes : List Item → List (List ℕ)
 part_bytes [] = []
 part_bytes (i ∷ items) = before_parts i (part_bytes items)
 
--- one after another as many as each of these segments has parts
+-- the bytes in groups, one for each of these segments, with as many elements as the segment has parts
 abbrev pub grouped : List (List Part) → List (List ℕ) → List (List (List ℕ))
 grouped [] bytes = []
 grouped (segment ∷ segments) bytes = take (length segment) bytes ∷ grouped segments (drop (length segment) bytes)

@@ -1,4 +1,4 @@
--- The bytes that all renditions of a channel have for players.
+-- The bytes that are kept of all renditions of a channel.
 use Rattle.std.specs.Prelude.{ℕ, ◌+◌, List, [], ◌∷◌, Bool, true, Option, Some, None, map, slice_get, slice_set}
 use Rattle.std.specs.Option.{option_map_or}
 use Rattle.ll_item.specs.Settings.{Configuration}
@@ -12,27 +12,27 @@ use Rattle.ll_store.specs.Stock.{Stock}
 use Rattle.ll_store.specs.declared.arrival.Arrival.{Arrival}
 use Rattle.ll_item.specs.declared.what.What.{What}
 
--- of all items of a channel, one for each of these renditions, the first of which has this index
+-- the stores after all items of a channel, one for each of these renditions, the first of which has the index `rendition`
 abbrev pub stores_from : Configuration → List Item → ℕ → List (List ℕ) → List StoreValue
 stores_from c items rendition [] = []
 stores_from c items rendition (name ∷ more) = store c (own rendition items) ∷ stores_from c items (rendition + 1) more
 
--- of all items of a channel, one for each of its renditions
+-- the stores after all items of a channel, one for each of its renditions
 abbrev pub stores : Configuration → List Item → List StoreValue
 stores c items = stores_from c items 0 c.renditions
 
--- what these keep
+-- what a store keeps
 abbrev pub kept_in : Stock → StoreValue
 kept_in s = s.kept
 
 abbrev pub all_kept : List Stock → List StoreValue
 all_kept stocks = map kept_in stocks
 
--- whether the one at this place has memory for what one more item brings
+-- whether the store at this place has memory for what one more item adds; true if there is none
 abbrev pub is_ready_at : ℕ → List Stock → Bool
 is_ready_at place stocks = option_map_or (λ (s : Stock). s.ready) (slice_get stocks place) true
 
--- for which map number a section of the rendition at this place is set now
+-- the map number of a section that is announced now in the rendition at this place
 abbrev pub map_at : ℕ → List Rendition → ℕ
 map_at place renditions = option_map_or (λ (k : Rendition). map_now k.window) (slice_get renditions place) 0
 
@@ -41,7 +41,7 @@ with_by a None s all = all
 with_by a (Some k) None all = all
 with_by a (Some k) (Some s) all = slice_set all a.rendition (trimmed k.window (grown a.map s a.brought))
 
--- with what one more item brings, where this is kept of all renditions with it
+-- the stores with what one more item adds; `renditions` is what is kept after it
 abbrev pub stores_with : Arrival → List Rendition → List StoreValue → List StoreValue
 stores_with a renditions all = with_by a (slice_get renditions a.rendition) (slice_get all a.rendition) all
 
@@ -50,6 +50,6 @@ media_by what None s = None
 media_by what (Some k) None = None
 media_by what (Some k) (Some s) = media_in k.window s what
 
--- the media that is there of the rendition with this index
+-- the media that is there in the rendition with this index
 abbrev pub media_at : List Rendition → List StoreValue → ℕ → What → Option (List ℕ)
 media_at renditions all rendition what = media_by what (slice_get renditions rendition) (slice_get all rendition)

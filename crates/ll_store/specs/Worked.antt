@@ -1,4 +1,4 @@
--- The definitions at worked examples.
+-- Worked examples of the definitions: the media of a small channel.
 use Rattle.std.specs.Prelude.{◌≡◌, ℕ, List, [], ◌∷◌, ◌++◌, Bool, true, false, Some, None, codes}
 use Rattle.ll_item.specs.Settings.{Configuration}
 use Rattle.ll_item.specs.declared.item.Item.{Item}
@@ -31,7 +31,7 @@ part bytes = part_item 1000000 false bytes
 abbrev pub last_part : List ℕ → Item
 last_part bytes = part_item 1000000 true bytes
 
--- a segment of forty seconds' length in one part, after which no earlier one is in the window
+-- a segment of one part that lasts forty seconds, so that no earlier segment stays in the window
 abbrev pub long : List ℕ → Item
 long bytes = part_item 40000000 true bytes
 

@@ -1,12 +1,13 @@
+//! What an item adds to the bytes that are kept of a channel.
 use crate::brought::Brought;
 
-/// What an item brings to the bytes that are kept of its channel.
+/// What an item adds to the bytes that are kept of its channel.
 #[derive(Drop)]
 pub struct Arrival {
-    /// The index of its rendition.
+    /// The index of the item's rendition.
     pub(crate) rendition: usize,
-    /// The map number for which an initialization section is set now.
+    /// The map number that an initialization section gets if the item is one.
     pub(crate) map: u64,
-    /// What it brings.
+    /// What the item adds.
     pub(crate) brought: Brought,
 }

@@ -1,4 +1,4 @@
-//! Bytes for players, which nobody copies.
+//! The bytes that a request for media gets, shared and never copied.
 ghost use Rattle.std.specs.Prelude.{◌≡◌, IfOk, length};
 ghost use Rattle.std.specs.List.{concat};
 
@@ -7,7 +7,7 @@ use std::alloc::{AllocError, Global};
 use std::marker::Model;
 use std::slice;
 
-/// The bytes that a player gets, one part after another. They are shared with all others who hold them.
+/// The bytes that a request gets, part by part, shared by all their holders.
 #[derive(Drop)]
 pub struct Blocks {
     parts: Vec<Media>,
@@ -26,7 +26,7 @@ impl Model for Blocks {
 }
 
 impl Blocks {
-    /// The bytes of one part.
+    /// Returns the bytes of one part.
     #[tactic(auto, using(crate::proofs::Sizes::concat_one))]
     pub fn one(alloc: Global, media: Media) -> Result<Blocks, AllocError>
         ensures { IfOk result (λ blocks. blocks ≡ media) }
@@ -37,14 +37,14 @@ impl Blocks {
         Ok(Blocks { parts, size })
     }
 
-    /// How many bytes there are.
+    /// Returns the number of bytes.
     pub fn len(&self) -> u64
         ensures { result ≡ length self.now }
     {
         self.size
     }
 
-    /// The bytes, part by part.
+    /// Returns the bytes, part by part.
     pub fn parts(&self) -> &[Media]
         ensures { concat result.now ≡ self.now }
     {
@@ -52,7 +52,7 @@ impl Blocks {
     }
 }
 
-/// Bytes of a store that are there for players.
+/// The bytes that a request gets, borrowed from their store.
 #[derive(Drop)]
 pub struct Found<'a> {
     parts: &'a [Media],
@@ -71,7 +71,7 @@ impl<'a> Model for Found<'a> {
 }
 
 impl<'a> Found<'a> {
-    /// Those of one part or section.
+    /// Returns the bytes of one part or section.
     #[tactic(auto, using(crate::proofs::Sizes::concat_one))]
     pub(crate) fn one(media: &'a Media) -> Found<'a>
         ensures { result ≡ media.now }
@@ -82,7 +82,7 @@ impl<'a> Found<'a> {
         }
     }
 
-    /// Those of the parts of a segment, which are so many.
+    /// Returns the bytes of `parts`, which are `size` bytes together.
     pub(crate) fn of_parts(parts: &'a [Media], size: u64) -> Found<'a>
         requires { size ≡ length (concat parts.now) }
         ensures { result ≡ concat parts.now }
@@ -90,14 +90,14 @@ impl<'a> Found<'a> {
         Found { parts, size }
     }
 
-    /// How many there are.
+    /// Returns the number of bytes.
     pub fn len(&self) -> u64
         ensures { result ≡ length self.now }
     {
         self.size
     }
 
-    /// Another holder of them.
+    /// Returns handles of the same bytes, which outlive the store.
     pub fn share(&self, alloc: Global) -> Result<Blocks, AllocError>
         ensures { IfOk result (λ blocks. blocks ≡ self.now) }
     {
@@ -109,7 +109,7 @@ impl<'a> Found<'a> {
     }
 }
 
-/// Another holder of the bytes of each part.
+/// Returns another handle of each of `parts`.
 fn copies(alloc: Global, parts: &[Media]) -> Result<Vec<Media>, AllocError>
     ensures { IfOk result (λ copies. copies.items ≡ parts.now) }
 {

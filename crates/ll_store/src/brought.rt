@@ -1,33 +1,33 @@
-//! What an item brings to the bytes that are kept.
+//! What an item adds to the bytes that are kept of its rendition.
 ghost use Rattle.std.specs.Prelude.{◌≡◌, IfOk};
 ghost use Rattle.ll_store.specs.Step.{brought_by};
 
 use ll_item::{Item, Media};
 use std::alloc::AllocError;
 
-/// What an item brings to the bytes that are kept of its rendition.
+/// What an item adds to the bytes that are kept of its rendition.
 #[derive(Drop)]
 pub enum Brought {
-    /// The bytes of a part.
+    /// A part.
     Part {
-        /// Its bytes.
+        /// The bytes of the part.
         media: Media,
-        /// Whether it is the last part of its segment.
+        /// Whether the part is the last of its segment.
         finish: bool,
     },
-    /// The bytes of a Media Initialization Section.
+    /// A Media Initialization Section.
     Section {
-        /// Its bytes.
+        /// The bytes of the section.
         media: Media,
     },
-    /// What finishes an open segment: the end, or a finish.
+    /// A finish or the end of the rendition, which finish an open segment.
     Closes,
     /// No bytes.
     Nothing,
 }
 
 impl Brought {
-    /// What this item brings: another holder of its bytes.
+    /// Returns what `item` adds, with another handle of its bytes.
     pub fn by(item: &Item) -> Result<Brought, AllocError>
         ensures { IfOk result (λ brought. brought ≡ brought_by item.now) }
     {

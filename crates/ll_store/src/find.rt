@@ -1,4 +1,4 @@
-//! What of a rendition is there for players.
+//! Finding the bytes that a request for media asks for.
 ghost use Rattle.std.specs.Prelude.{◌≡◌, ◌++◌, ◌∷◌, [], MatchOption, None, Some, option_map, slice_get};
 ghost use Rattle.std.specs.List.{concat};
 ghost use Rattle.std.specs.Option.{option_and_then};
@@ -12,8 +12,8 @@ use ll_item::What;
 use ll_window::Window;
 
 impl Store {
-    /// The bytes that are there of what a request is for, where the window is this: of a segment of the window, of a part of one of these or of the
-    /// open segment, or of a Media Initialization Section that is in force at one of these or would be set now.
+    /// Returns the bytes of `what` in a rendition whose window is `window`: of a segment of the window, of a part of one of these or of the open segment,
+    /// or of a Media Initialization Section that is in force at one of these or has the map number of one announced now. Returns `None` for all else.
     pub fn find(&self, window: &Window, what: What) -> Option<Found<'_>>
         ensures { MatchOption result (media_in window.now self.now.kept what ≡ None) (λ found. media_in window.now self.now.kept what ≡ Some found) }
     {
@@ -25,7 +25,7 @@ impl Store {
         }
     }
 
-    /// Those of the segment at this place of the window.
+    /// Returns the bytes of the segment at `place` in the window, from 0.
     fn segment(&self, place: u64) -> Option<Found<'_>>
         ensures { MatchOption result (option_map concat (slice_get self.now.kept.window place) ≡ None)
             (λ found. option_map concat (slice_get self.now.kept.window place) ≡ Some found) }
@@ -34,7 +34,7 @@ impl Store {
         Some(Found::of_parts(&segment.parts, segment.size))
     }
 
-    /// Those of the part of this index in the segment at this place of the window, after which the open segment comes.
+    /// Returns the bytes of part `index` of the segment at `place` in the window, from 0; the open segment has the place after the last.
     fn part(&self, place: u64, index: u64) -> Option<Found<'_>>
         ensures { MatchOption result (spec.part_at (self.now.kept.window ++ self.now.kept.unfinished ∷ []) place index ≡ None)
             (λ found. spec.part_at (self.now.kept.window ++ self.now.kept.unfinished ∷ []) place index ≡ Some found) }
@@ -47,7 +47,7 @@ impl Store {
         Some(Found::one(parts.get(index as usize)?))
     }
 
-    /// Those of the section of this map number.
+    /// Returns the bytes of the section with the map number `number`.
     fn section(&self, number: u64) -> Option<Found<'_>>
         ensures { MatchOption result (section_of number self.now.kept.sections ≡ None) (λ found. section_of number self.now.kept.sections ≡ Some found) }
     {
@@ -60,7 +60,8 @@ impl Store {
     }
 }
 
-/// The place in the window of the segment of this Media Sequence Number, or where it would stand; none before the window.
+/// Returns the place in the window of the segment with the Media Sequence Number `number`, or the place that it would have after the others; `None` if
+/// it comes before the window.
 fn place_of(window: &Window, number: u64) -> Option<u64>
     ensures { result ≡ spec.place_in window.now number }
 {

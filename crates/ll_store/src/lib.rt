@@ -1,4 +1,4 @@
-//! The bytes that a rendition has for players, while its playlists show what they are of.
+//! The bytes of segments, parts and Media Initialization Sections that a rendition keeps for requests, until their segment leaves the window.
 #![tactic(auto)]
 
 mod arrival;

@@ -1,12 +1,12 @@
-//! The bytes of segments and of Media Initialization Sections.
+//! The bytes of finished segments and of Media Initialization Sections, as they are kept.
 use ll_item::Media;
 use std::marker::Model;
 
-/// The bytes of a segment, part by part.
+/// The bytes of a finished segment, part by part.
 #[derive(Drop)]
 pub(crate) struct SegmentMedia {
     pub(crate) parts: Vec<Media>,
-    /// How many bytes that are.
+    /// The number of bytes of all parts.
     pub(crate) size: u64,
 }
 
@@ -21,7 +21,7 @@ impl Model for SegmentMedia {
     ghost invariant = { λ s. s.size ≡ length (concat s.parts.items) };
 }
 
-/// The bytes that were set for a map number.
+/// A Media Initialization Section: the bytes that were announced last for a map number.
 #[derive(Drop)]
 pub(crate) struct Section {
     pub(crate) number: u64,

@@ -1,4 +1,4 @@
-//! The bytes that a rendition has for players.
+//! The bytes that are kept of a rendition.
 ghost use Rattle.std.specs.Prelude.{◌≡◌, ◌+◌, ◌<◌, ◌≤◌, ◌^◌, ◌++◌, ◌∷◌, [], OnOk, ◌==◌, filter, length, nat_le, not, true, vec_capacity, vec_len};
 ghost use Rattle.std.specs.List.{concat};
 ghost use Rattle.std.specs.VecDeque.{deque_capacity, deque_len};
@@ -17,17 +17,17 @@ use std::collections::VecDeque;
 use std::marker::Model;
 use std::mem;
 
-/// Open segments stay below so many bytes before they take one more part.
+/// The number of bytes from which on an open segment takes no more parts.
 const SIZE_END: u64 = 1 << 63;
 
-/// The bytes that a rendition has for players: those of the segments that playlists show, of the open one, and the Media Initialization Sections that
-/// are in force at one of these, or would be set now. What has left the window is given up.
+/// The bytes that are kept of a rendition: those of the segments of the window and of the open one, and the Media Initialization Sections that are in
+/// force at one of these or have the map number of one announced now. What leaves the window is dropped.
 #[derive(Drop)]
 pub struct Store {
     alloc: Global,
     pub(crate) window: VecDeque<SegmentMedia>,
     pub(crate) unfinished: Vec<Media>,
-    /// How many bytes the open segment has.
+    /// The number of bytes of the open segment.
     unfinished_size: u64,
     pub(crate) sections: Vec<Section>,
 }
@@ -49,7 +49,7 @@ impl Model for Store {
 }
 
 impl Store {
-    /// What is kept of no items. It takes no memory.
+    /// Returns the store before the first item, which takes no memory.
     pub fn new(alloc: Global) -> Store
         ensures { (c : Configuration) → result.kept ≡ store c [] }
     {
@@ -62,7 +62,7 @@ impl Store {
         }
     }
 
-    /// Finds memory for what one more item brings. For a segment of 2^63 bytes or more there is none.
+    /// Reserves memory for what one more item adds. It fails too if the open segment has 2^63 bytes or more.
     pub fn reserve(&mut self) -> Result<(), AllocError>
         ensures ready { OnOk result (self.new.ready ≡ true) }
         ensures unchanged { self.new.kept ≡ self.old.kept }
@@ -75,8 +75,8 @@ impl Store {
         self.sections.reserve(1)
     }
 
-    /// Takes in what an item brings that was accepted, where an initialization section would have been set for this map number before it, and the
-    /// window is this with it. It takes no memory.
+    /// Adds `brought` of an accepted item, after `reserve`, and drops what has left the window. `map` is the map number that an initialization
+    /// section gets if the item is one, and `window` the window after the item. It takes no memory.
     pub fn accept(&mut self, brought: Brought, map: u64, window: &Window)
         requires { self.old.ready ≡ true }
         ensures { self.new.kept ≡ trimmed window.now (grown map self.old.kept brought) }
@@ -104,7 +104,7 @@ impl Store {
     }
 }
 
-/// Adds a part to the open segment, which has so many bytes.
+/// Adds a part to the open segment, which has `size` bytes.
 #[tactic(auto, using(crate::proofs::Sizes::size_grown))]
 fn add(unfinished: &mut Vec<Media>, size: &mut u64, media: Media)
     requires room { vec_len unfinished.old < vec_capacity unfinished.old }
@@ -117,7 +117,7 @@ fn add(unfinished: &mut Vec<Media>, size: &mut u64, media: Media)
     unfinished.push_reserved(media);
 }
 
-/// Makes a segment of the parts of the open one, where it has some.
+/// Finishes the open segment, which has `size` bytes, if it has a part.
 fn close(
     alloc: Global,
     segments: &mut VecDeque<SegmentMedia>,
@@ -140,7 +140,7 @@ fn close(
     }
 }
 
-/// Sets the bytes for a map number: they take the place of earlier ones.
+/// Sets the section with the map number `number`, which replaces an earlier one.
 fn set(sections: &mut Vec<Section>, number: u64, bytes: Media)
     requires { vec_len sections.old < vec_capacity sections.old }
     ensures { sections.new.items ≡ with_section number bytes sections.old.items }
@@ -153,7 +153,7 @@ fn set(sections: &mut Vec<Section>, number: u64, bytes: Media)
     sections.push_reserved(Section { number, bytes });
 }
 
-/// Gives up all segments but so many last ones.
+/// Drops all but the last `count` segments.
 #[tactic(auto, using(crate::proofs::Last::last_shorter, crate::proofs::Last::last_all))]
 fn keep_last(segments: &mut VecDeque<SegmentMedia>, count: usize)
     ensures { segments.new.items ≡ last_of count segments.old.items }
@@ -163,7 +163,7 @@ fn keep_last(segments: &mut VecDeque<SegmentMedia>, count: usize)
     }
 }
 
-/// Gives up the sections of lower map numbers.
+/// Drops the sections with map numbers below `least`.
 fn keep_from(sections: &mut Vec<Section>, least: u64)
     ensures { sections.new.items ≡ filter (λ (s : SectionValue). nat_le least s.number) sections.old.items }
 {

@@ -1,4 +1,4 @@
-//! The bytes that all renditions of a channel have for players.
+//! The bytes that are kept of all renditions of a channel. Stores and renditions are in the order of the settings.
 ghost use Rattle.std.specs.Prelude.{◌≡◌, [], IfOk, MatchOption, None, OnOk, Some, true};
 ghost use Rattle.ll_item.specs.Items.{rendition_of};
 ghost use Rattle.ll_store.specs.Step.{brought_by};
@@ -13,7 +13,7 @@ use ll_item::{Item, Settings, What};
 use ll_rendition::Rendition;
 use std::alloc::{AllocError, Global};
 
-/// What is kept of no items, for each rendition of a channel of these settings.
+/// Returns a store without items for each rendition of `settings`.
 pub fn new_stores(alloc: Global, settings: &Settings) -> Result<Vec<Store>, AllocError>
     ensures { IfOk result (λ made. all_kept made.items ≡ stores settings.now []) }
 {
@@ -25,7 +25,7 @@ pub fn new_stores(alloc: Global, settings: &Settings) -> Result<Vec<Store>, Allo
     Ok(made)
 }
 
-/// What an item brings, where this is kept of all renditions before it; memory for it is found. It fails only where none is found.
+/// Returns what `item` adds, and reserves memory for it. `renditions` is what is kept before the item.
 pub fn expect(
     stores: &mut Vec<Store>,
     renditions: &[Rendition],
@@ -48,7 +48,7 @@ pub fn expect(
     })
 }
 
-/// Takes in what an item brings that was accepted, where this is kept of all renditions with it. It takes no memory.
+/// Adds `arrival` of an accepted item, which `expect` has returned. `renditions` is what is kept after the item. It takes no memory.
 pub fn arrive(stores: &mut Vec<Store>, arrival: Arrival, renditions: &[Rendition])
     requires { is_ready_at arrival.rendition stores.old.items ≡ true }
     ensures { all_kept stores.new.items ≡ stores_with arrival renditions.now (all_kept stores.old.items) }
@@ -66,7 +66,7 @@ pub fn arrive(stores: &mut Vec<Store>, arrival: Arrival, renditions: &[Rendition
     }
 }
 
-/// The bytes that are there of what a request for the rendition with this index is for.
+/// Returns the bytes of `what` in the rendition with the index `rendition`, or `None` if they aren't there.
 pub fn find_at<'a>(
     renditions: &[Rendition],
     stores: &'a [Store],
@@ -81,7 +81,7 @@ pub fn find_at<'a>(
     store.find(&kept.window, what)
 }
 
-/// Finds memory in the store at this place for what one more item brings.
+/// Reserves memory in the store at `place` for what one more item adds.
 fn reserve_at(stores: &mut Vec<Store>, place: usize) -> Result<(), AllocError>
     ensures unchanged { all_kept stores.new.items ≡ all_kept stores.old.items }
     ensures ready { OnOk result (is_ready_at place stores.new.items ≡ true) }
@@ -92,7 +92,7 @@ fn reserve_at(stores: &mut Vec<Store>, place: usize) -> Result<(), AllocError>
     }
 }
 
-/// The map number for which a section of the rendition at this place is set now.
+/// Returns the map number of a section that is announced now in the rendition at `place`.
 fn map_at(renditions: &[Rendition], place: usize) -> u64
     ensures { result ≡ spec.map_at place renditions.now }
 {

@@ -1,3 +1,4 @@
+//! Tables of numbers and texts: spelled, parsed, cut and copied.
 use crate::rows::{column, number};
 use ll_attr::{Text, after, cut, micros_text, parse_micros, parse_number};
 use std::alloc::{AllocError, Global};
@@ -18,7 +19,7 @@ pub(crate) fn add_answer(
     }
 }
 
-/// A number of microseconds as a text.
+/// Microseconds, and their text.
 pub(crate) const WRITTEN: &str = "text: written
 0 => 0.000000
 1500000 => 1.500000
@@ -29,7 +30,7 @@ fn add_written(alloc: Global, told: &mut String, input: &str) -> Result<(), Allo
     told.push_str(text.as_str())
 }
 
-/// A text, and the microseconds that it is.
+/// A text, and the microseconds that it is parsed as.
 pub(crate) const READ: &str = "text: read
 1.5 => Some(1500000)
 7 => Some(7000000)
@@ -49,7 +50,7 @@ pub(crate) const READ: &str = "text: read
  1 => None
 1e3 => None";
 
-/// How many digits there may be, a text, and the number that it is.
+/// How many digits a number is allowed to have, a text, and the number that it is parsed as.
 pub(crate) const NUMBERS: &str = "text: number
 20 | 18446744073709551615 => Some(18446744073709551615)
 20 | 18446744073709551616 => None
@@ -65,7 +66,7 @@ fn add_number(told: &mut String, input: &str) -> Result<(), AllocError> {
     write!(told, "{found:?}")
 }
 
-/// A text, and what stands before the first blank in it and after that.
+/// A text, and what stands before and after its first blank.
 pub(crate) const CUTS: &str = r#"text: cut
 a b  c => Some(("a", "b  c"))
  b => Some(("", "b"))
@@ -73,7 +74,7 @@ a  => Some(("a", ""))
 abc => None
  => None"#;
 
-/// A text, and what follows the key in it.
+/// A text, and what follows the key at its front.
 pub(crate) const KEYS: &str = r#"text: after
 key=a => Some("a")
 key= => Some("")
@@ -82,7 +83,7 @@ kex=a => None
 key => None
 a key= => None"#;
 
-/// A text, and what the copy of a text of these bytes says.
+/// A text, and its copy.
 pub(crate) const TEXTS: &str = "text: copy
  => []
 a b => [a b]

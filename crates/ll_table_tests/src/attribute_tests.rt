@@ -1,3 +1,4 @@
+//! Tables of attribute lists.
 use crate::rows::column;
 use ll_attr::{AttrList, AttrValue};
 use std::alloc::{AllocError, Global};
@@ -19,7 +20,7 @@ pub(crate) fn add_answer(
     }
 }
 
-/// What is told of a list.
+/// Appends the answer to a question about a list.
 fn add_told(
     alloc: Global,
     told: &mut String,
@@ -35,7 +36,7 @@ fn add_told(
     }
 }
 
-/// A list is written as it was read.
+/// A list, which is written as it was read.
 pub(crate) const LISTS: &str = "list: written
 A=1,B=\"x,y\" => A=1,B=\"x,y\"
 A=\"\" => A=\"\"
@@ -57,8 +58,7 @@ fn add_written(told: &mut String, list: &AttrList) -> Result<(), AllocError> {
     told.push_str(text.as_str())
 }
 
-/// A name, and the value that it has in a list.
-/// A name in the list below, whether its value is quoted, and the value.
+/// A name, and its value in the list of [`add_answer`].
 pub(crate) const VALUES: &str = r#"list: value
 A => 1
 B => "x,y"

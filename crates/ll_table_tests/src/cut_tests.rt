@@ -1,13 +1,13 @@
-//! Streams of a few boxes.
+//! A test of short streams of boxes, which a cutter cuts into parts and segments.
 ghost use Rattle.std.specs.Prelude.{◌≤◌};
 
-use ll_mp4::Fault;
+use ll_mp4::StreamFault;
 use ll_parts::{Cutter, Lengths, Piece};
 use std::alloc::{AllocError, Global};
 use std::process::Abort;
 use std::test::Fail;
 
-/// Parts of 100 ms at most, and segments of 130 to 195 ms.
+/// Parts of at most 100 ms, and segments of 130 to 195 ms.
 const LENGTHS: Lengths = Lengths {
     part: 100_000,
     segment: 130_000,
@@ -88,8 +88,8 @@ const ALONE: &[u8] =
 const ONE: &[u8] =
     b"\x00\x00\x00@moof\x00\x00\x00\x10mfhd\x00\x00\x00\x00\x00\x00\x00\x01\x00\x00\x00(traf\x00\x00\x00\x10tfhd\x00\x00\x00\x00\x00\x00\x00\x01\x00\x00\x00\x10trun\x00\x00\x00\x00\x00\x00\x00\x01\x00\x00\x00\x09mdatm";
 
-/// Boxes, and what comes of them: a movie begins, an initialization section with its length, parts with their lengths, their durations, whether they begin with a
-/// sync sample and whether they are the last of their segments, breaks; and a fault, or that the input ends there.
+/// Boxes, and what is published of them: that a movie begins; an initialization section with its length; parts with their lengths, their durations,
+/// whether they begin with a sync sample, and whether they are the last of their segments; breaks; and then a fault, or the end of the input.
 const ROWS: [(&[&[u8]], &str); 29] = [
     (
         &[FTYP, MOOV, SYNC, PLAIN, OWN, DEFAULTS, MFRA],
@@ -151,7 +151,7 @@ fn rows_come_so(rt: HostRuntime) -> Result<(), Fail> {
     Ok(())
 }
 
-/// It comes so in whatever pieces.
+/// Compares what is published of boxes with `expected`, in whatever pieces their bytes come.
 fn check(rt: &impl Abort, alloc: Global, boxes: &[&[u8]], expected: &str) -> Result<(), Fail> {
     for size in [1, 7, 1_000] {
         let told = told(alloc, boxes, size)?;
@@ -163,7 +163,7 @@ fn check(rt: &impl Abort, alloc: Global, boxes: &[&[u8]], expected: &str) -> Res
     Ok(())
 }
 
-/// What is told of boxes whose bytes come in pieces of so many.
+/// Returns what is published of boxes whose bytes come in pieces of `size`.
 fn told(alloc: Global, boxes: &[&[u8]], size: usize) -> Result<String, AllocError>
     requires { 1 ≤ size }
 {
@@ -188,7 +188,7 @@ fn told(alloc: Global, boxes: &[&[u8]], size: usize) -> Result<String, AllocErro
     Ok(told)
 }
 
-/// Adds all pieces that came.
+/// Appends all pieces that came.
 fn add_pieces(alloc: Global, told: &mut String, cutter: &mut Cutter) -> Result<(), AllocError> {
     for _ in 0..99 {
         if let Some(piece) = cutter.pop() {
@@ -220,7 +220,7 @@ fn add_piece(alloc: Global, told: &mut String, piece: &Piece) -> Result<(), Allo
     told.push_str(note.as_str())
 }
 
-fn add_fault(alloc: Global, told: &mut String, fault: Fault) -> Result<(), AllocError> {
+fn add_fault(alloc: Global, told: &mut String, fault: StreamFault) -> Result<(), AllocError> {
     let note = format!(in alloc; "{fault:?}")?;
     told.push_str(note.as_str())
 }

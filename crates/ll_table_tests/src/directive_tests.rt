@@ -1,3 +1,4 @@
+//! Tables of the targets of requests, and what they ask for.
 use ll_directive::{Awaited, Want, read_target};
 use ll_item::{SkipKind, What};
 use std::alloc::{AllocError, Global};
@@ -14,7 +15,7 @@ pub(crate) fn add_answer(
     }
 }
 
-/// Adds what a target asks for: the names as a copy tells them, what is awaited, and what may be skipped. Or its fault.
+/// Appends what a target asks for: the names as a copy has them, what is awaited, and what may be skipped; or its fault.
 fn add_target(alloc: Global, told: &mut String, target: &str) -> Result<(), AllocError> {
     match read_target(alloc, target.as_bytes()) {
         Ok(want) => add_want(told, &want),
@@ -147,14 +148,14 @@ live.m3u8 => BadTarget
 /cam/hi/live.m3u8?\u{7f} => BadTarget
 /x/é => BadTarget";
 
-/// Names are read, and copied.
+/// Targets with names of all forms, which are read and copied.
 pub(crate) const NAMES: &str = "directive: target
 http://a/cam/hi/live.m3u8 => cam hi: nothing
 HTTPS://a:1/cam/hi/live.m3u8?_HLS_skip=v2 => cam hi: nothing, skip v2
 hTtP://@/-/_/live.m3u8?/ => - _: nothing
 /abcdefghijklmnopqrstuvwxyz_-0189/0/live.m3u8 => abcdefghijklmnopqrstuvwxyz_-0189 0: nothing";
 
-/// What stands after two thousand other pairs counts.
+/// A query pair that counts, though two thousand others come before it.
 pub(crate) const MANY: &str = "directive: many
 _HLS_msn=1234 => cam hi: segment 1234";
 

@@ -1,9 +1,9 @@
-//! What each fault is called, which no contract says of those that `thiserror` spells.
+//! A table of the names of faults, which `thiserror` writes and no contract pins.
 use ll_attr::AttrFault;
 use ll_directive::TargetFault;
 use ll_item::{ItemFault, SettingsFault};
 use ll_range::{RangeError, RangeFault};
-use ll_window::{PushError, PushFault};
+use ll_window::{PushError, WindowFault};
 use std::alloc::AllocError;
 use std::fmt::Display;
 
@@ -41,14 +41,14 @@ const OF_SETTINGS: [SettingsFault; 9] = [
 ];
 
 const OF_PARTS: [PushError; 9] = [
-    PushError::Refused(PushFault::Ended),
-    PushError::Refused(PushFault::BadDuration),
-    PushError::Refused(PushFault::TooLong),
-    PushError::Refused(PushFault::OpenSegment),
-    PushError::Refused(PushFault::NoSegment),
-    PushError::Refused(PushFault::CountEnd),
-    PushError::Refused(PushFault::TimeEnd),
-    PushError::Refused(PushFault::TimeBack),
+    PushError::Refused(WindowFault::Ended),
+    PushError::Refused(WindowFault::BadDuration),
+    PushError::Refused(WindowFault::TooLong),
+    PushError::Refused(WindowFault::OpenSegment),
+    PushError::Refused(WindowFault::NoSegment),
+    PushError::Refused(WindowFault::CountEnd),
+    PushError::Refused(WindowFault::TimeEnd),
+    PushError::Refused(WindowFault::TimeBack),
     PushError::Memory,
 ];
 
@@ -74,7 +74,7 @@ pub(crate) fn add_answer(told: &mut String, of: &str) -> Result<(), AllocError> 
     }
 }
 
-/// Adds the names of faults, each with a comma after it.
+/// Appends the names of faults, each with a comma after it.
 fn add_names<T: Display>(told: &mut String, faults: &[T]) -> Result<(), AllocError> {
     for fault in faults {
         write!(told, "{fault},")?;
@@ -82,7 +82,7 @@ fn add_names<T: Display>(told: &mut String, faults: &[T]) -> Result<(), AllocErr
     Ok(())
 }
 
-/// Adds the status of each fault, its name and how it is written.
+/// Appends of each fault its status, its name, and how it is written.
 fn add_statuses(told: &mut String, faults: &[TargetFault]) -> Result<(), AllocError> {
     for fault in faults {
         write!(told, "{} {} {fault},", fault.status(), fault.name())?;

@@ -1,3 +1,4 @@
+//! Tables of the lines of a publisher's connection, and of their answers.
 ghost use Rattle.std.specs.Prelude.{◌<◌};
 
 use crate::rows::{bytes, column, number};
@@ -22,7 +23,7 @@ pub(crate) fn add_answer(
     }
 }
 
-/// Hands these bytes to the feed, once more where no memory is found: a refusal changes nothing.
+/// Hands `bytes` to the feed, and once more if that fails, since a failed call changes nothing.
 fn take(feed: &mut Feed, bytes: &[u8]) -> Result<(), AllocError> {
     match feed.take(bytes) {
         Ok(()) => Ok(()),
@@ -30,7 +31,7 @@ fn take(feed: &mut Feed, bytes: &[u8]) -> Result<(), AllocError> {
     }
 }
 
-/// Notes a line: an item's by its channel, its length and its text up to 12 bytes, with how many bytes it has, where it has some, and the first of them.
+/// Notes a line; of an item its channel, the length and the first 12 bytes of its text, and, if it has bytes, their number and the first of them.
 fn note_line(alloc: Global, line: Line<'_>, notes: &mut String) -> Result<(), AllocError> {
     let note = match line {
         Line::Item(channel, item, media) => {
@@ -52,7 +53,7 @@ fn note_line(alloc: Global, line: Line<'_>, notes: &mut String) -> Result<(), Al
     notes.push_str(note.as_str())
 }
 
-/// Notes all lines that are told by now.
+/// Notes all lines that the feed has by now.
 fn note_lines(alloc: Global, feed: &mut Feed, notes: &mut String) -> Result<(), AllocError> {
     for _ in 0..9 {
         match feed.next() {
@@ -63,7 +64,7 @@ fn note_lines(alloc: Global, feed: &mut Feed, notes: &mut String) -> Result<(), 
     Ok(())
 }
 
-/// Notes the lines of these bytes, which come in pieces of so many.
+/// Notes the lines of `bytes`, which come in pieces of `size`.
 fn add_lines(alloc: Global, told: &mut String, bytes: &[u8], size: usize) -> Result<(), AllocError>
     requires { 0 < size }
 {
@@ -75,7 +76,7 @@ fn add_lines(alloc: Global, told: &mut String, bytes: &[u8], size: usize) -> Res
     Ok(())
 }
 
-/// Bytes, and the lines that they are.
+/// Bytes, and their lines.
 pub(crate) const STREAMS: &str = "feed: both ways
 cam part hi 1000000 if␊cam end hi␊ => cam 18 part hi 1000; cam 6 end hi; 
 cam end hi\r␊ => cam 6 end hi; 
@@ -113,14 +114,14 @@ fn add_stream(alloc: Global, told: &mut String, input: &str) -> Result<(), Alloc
     add_each_way(alloc, told, &bytes)
 }
 
-/// Notes the lines of bytes that come in large pieces, and where they differ those of pieces of 100 bytes and of one.
+/// Notes the lines of bytes that come in large pieces, and if they differ, those of pieces of 100 bytes and of one byte.
 fn add_each_way(alloc: Global, told: &mut String, bytes: &[u8]) -> Result<(), AllocError> {
     add_lines(alloc, told, bytes, 9_999)?;
     add_others(alloc, told, bytes, 100)?;
     add_others(alloc, told, bytes, 1)
 }
 
-/// Notes the lines of bytes that come in pieces of so many, where they aren't those that were told.
+/// Notes the lines of bytes that come in pieces of `size`, if they aren't those that are noted already.
 fn add_others(alloc: Global, told: &mut String, bytes: &[u8], size: usize) -> Result<(), AllocError>
     requires { 0 < size }
 {
@@ -132,7 +133,7 @@ fn add_others(alloc: Global, told: &mut String, bytes: &[u8], size: usize) -> Re
     write!(told, ", in pieces of {size} {others}")
 }
 
-/// The length of a line for the channel `c`, what comes after it, and what is told: a line that is too long is told once.
+/// The length of a line of the channel `c`, what comes after it, and what the feed returns: a line that is too long is returned once.
 pub(crate) const LONG: &str = "feed: long
 4096 | ␊d e␊ => c 4094 xxxxxxxxxxxx; d 1 e; 
 4096 | \r␊d e␊ => c 4094 xxxxxxxxxxxx; d 1 e; 
@@ -153,7 +154,7 @@ fn add_long(alloc: Global, told: &mut String, input: &str) -> Result<(), AllocEr
     add_each_way(alloc, told, text.as_str().as_bytes())
 }
 
-/// How many bytes a part has, what comes after them, and what is told.
+/// How many bytes a part has, what comes after them, and what the feed returns.
 pub(crate) const MEDIA: &str = "feed: media
 1048576 | ␊d e␊ => c 11 part hi 1 f + 1048576 120; d 1 e; 
 1048576 | x␊d e␊ => Bad; d 1 e; 
@@ -170,7 +171,7 @@ fn add_media(alloc: Global, told: &mut String, input: &str) -> Result<(), AllocE
     add_others(alloc, told, text.as_str().as_bytes(), 100)
 }
 
-/// After each piece the lines that it ends; a line that has no end yet is told by a later piece.
+/// After each piece the lines that it ends; a line without an end yet comes with a later piece.
 pub(crate) const PIECES: &str = "feed: pieces
 cam part hi 10 | 00000 if␊cam |  |  end hi␊ => /cam 18 part hi 1000; //cam 6 end hi; /";
 
@@ -184,7 +185,7 @@ fn add_pieces(alloc: Global, told: &mut String, input: &str) -> Result<(), Alloc
     Ok(())
 }
 
-/// What an item is answered, and its line.
+/// The answer to an item, and its line.
 pub(crate) const REPLIES: &str = "feed: reply
 1 => ok 1␊
 18446744073709551615 => ok 18446744073709551615␊
@@ -195,7 +196,7 @@ too many bytes => no 16 MediaTooLong␊
 place of 17 => at 17 61 2 123456789 1700000123457␊
 last place of 18446744073709551615 => at 18446744073709551615 61 2 123456789 1700000123457 ended␊";
 
-/// Each refusal's code and name, as a publisher reads them.
+/// The code and the name of each refusal, as a publisher reads them.
 const CODES: [(Refusal, &str); 18] = [
     (
         Refusal::Rule(PublishFault::NoRendition),
@@ -257,7 +258,7 @@ fn reply(name: &str) -> Result<Success, Refusal> {
     }
 }
 
-/// Returns a place in a channel of this many items.
+/// Returns where a rendition stands in a channel of `count` items.
 fn standing(count: &str, ended: bool) -> Standing {
     Standing {
         count: count.parse::<u64>().unwrap_or(999),

@@ -1,3 +1,4 @@
+//! Tables of settings and items, and of the lines that spell them.
 use crate::rows::{Bench, LINE, column};
 use ll_attr::{AttrList, Text};
 use ll_item::{Item, ItemFault, Media, Payload, Settings, announced};
@@ -18,7 +19,7 @@ pub(crate) fn add_answer(
     }
 }
 
-/// A line, and what a copy of its settings says: the index of the rendition `hi` comes before the names of renditions.
+/// A line, and what a copy of its settings says: the index of the rendition `hi`, and then the names of the renditions, come last.
 pub(crate) const SETTINGS: &str = r#"item: settings
 channel cam target=4 part=1000000 skip=24 window=36 renditions=lo,hi first=7 start=1700000000000 => "cam" (4, 1000000, 24, 36) (7, 1700000000000) Some(1) lo hi"#;
 
@@ -46,7 +47,7 @@ fn add_settings(told: &mut String, settings: &Settings) -> Result<(), AllocError
     Ok(())
 }
 
-/// Adds what settings say but for the names of renditions.
+/// Appends what settings say, but for the names of renditions.
 fn add_numbers(told: &mut String, settings: &Settings) -> Result<(), AllocError> {
     let (target, part) = (settings.target(), settings.part_target());
     let durations = (target, part, settings.skip(), settings.window());
@@ -56,7 +57,7 @@ fn add_numbers(told: &mut String, settings: &Settings) -> Result<(), AllocError>
     write!(told, "{channel:?} {durations:?} {begin:?} {rendition:?}")
 }
 
-/// What comes of the line above, with another text in place of one that stands there.
+/// Appends whether the line of [`LINE`] is read with one of its texts replaced by another, or its fault.
 fn add_changed(alloc: Global, told: &mut String, input: &str) -> Result<(), AllocError> {
     let Some((before, after)) = LINE.split_once(column(input, 0)) else {
         return told.push_str("it does not stand in the line");
@@ -114,7 +115,7 @@ window=36 renditions=lo,hi | window=35 renditions=Hi => WindowTooSmall
 lo,hi | a,b,c,d,e,f,g,h,a => BadName
 lo,hi first=7 | a,b,c,d,e,f,g,h,i first=1152921504606846977 => NoRendition";
 
-/// These names, one after another.
+/// Returns the names in `words`.
 fn names(alloc: Global, words: &str) -> Result<Vec<Text>, AllocError> {
     let mut names = Vec::new(alloc);
     for word in words.split_whitespace() {
@@ -156,7 +157,7 @@ fn add_settings_with(
     }
 }
 
-/// The item of a line, with the bytes that stand after it in angle brackets, where they do.
+/// Reads the item of a line, with the bytes in angle brackets after it, if there are any.
 fn read_item(alloc: Global, settings: &Settings, line: &str) -> Result<Item, ItemFault> {
     match line.split_once(" <") {
         Some((item, bytes)) => {
@@ -168,7 +169,7 @@ fn read_item(alloc: Global, settings: &Settings, line: &str) -> Result<Item, Ite
     }
 }
 
-/// The item of a line, with as many bytes as its last word tells, where that tells them.
+/// Reads the item of a line, with as many bytes as its last word says, if it says that.
 fn read_announced(alloc: Global, settings: &Settings, line: &str) -> Result<Item, ItemFault> {
     match announced(line) {
         Some((item, length)) => {
@@ -179,7 +180,7 @@ fn read_announced(alloc: Global, settings: &Settings, line: &str) -> Result<Item
     }
 }
 
-/// What the copy of an item tells that a line spells, or the fault of the line.
+/// Appends what a copy of a line's item says, or the fault of the line.
 fn add_item_of(
     alloc: Global,
     told: &mut String,
@@ -197,7 +198,7 @@ fn add_copy(told: &mut String, item: &Item) -> Result<(), AllocError> {
     add_item(told, &copy)
 }
 
-/// Adds what an item tells: its kind, its rendition's index, then the rest of it.
+/// Appends what an item says: its kind, its rendition's index, and the rest.
 fn add_item(told: &mut String, item: &Item) -> Result<(), AllocError> {
     let rendition = item.rendition();
     match item {
@@ -219,7 +220,7 @@ fn add_item(told: &mut String, item: &Item) -> Result<(), AllocError> {
     }
 }
 
-/// Adds the bytes, or how many they are where they weren't given.
+/// Appends the bytes, or their number if they weren't given.
 fn add_bytes(told: &mut String, media: &Media) -> Result<(), AllocError> {
     match media.bytes() {
         Some(bytes) => write!(told, "{bytes:?}"),
@@ -237,7 +238,7 @@ fn add_range(
     write!(told, "range {rendition} [{id}] [{list}]")
 }
 
-/// A line, and what the copy of its item tells.
+/// A line, and what a copy of its item says.
 pub(crate) const ITEMS: &str = r#"item: item
 part hi 1000000 - => part 1 1000000 false false, []
 part hi 1000000 - 0 => part 1 1000000 false false, []

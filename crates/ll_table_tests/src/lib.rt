@@ -1,4 +1,5 @@
-//! Tests of `ll_attr`, `ll_format`, `ll_mp4`, `ll_item`, `ll_window`, `ll_range`, `ll_page`, `ll_read`, `ll_directive`, `ll_publish`, `ll_wire` and `ll_session`. They stand here so that none of these is proved a second time for its tests.
+//! Tests of `ll_attr`, `ll_format`, `ll_mp4`, `ll_parts`, `ll_item`, `ll_window`, `ll_range`, `ll_page`, `ll_read`, `ll_directive`, `ll_publish`,
+//! `ll_wire` and `ll_session`, most of them as tables of rows. They have a crate of their own so that none of these is proved a second time for them.
 #![tactic(auto)]
 
 #[cfg(test)]

@@ -1,3 +1,4 @@
+//! Tables of playlists, and of the views and pages that they are written from.
 use crate::rows::{column, number};
 use ll_item::{Item, Payload, Settings, SettingsFault};
 use ll_page::{Page, Rendition, Shown, SkipKind, View, delta, full};
@@ -5,7 +6,7 @@ use ll_range::Ranges;
 use ll_window::Window;
 use std::alloc::{AllocError, Global};
 
-/// The playlist of an ended rendition of a date range and no parts, where the target duration is 4 s and the part target 1 s.
+/// The playlist of an ended rendition with a date range and no part; the target duration is 4 s, the part target 1 s.
 const ENDED: &str = "#EXTM3U\n\
     #EXT-X-VERSION:10\n\
     #EXT-X-TARGETDURATION:4\n\
@@ -36,7 +37,7 @@ const BROKEN: &str = "#EXTM3U\n\
     #EXT-X-PART:DURATION=1.000000,URI=\"s1.0.m4s\"\n\
     #EXT-X-PRELOAD-HINT:TYPE=PART,URI=\"s1.1.m4s\"\n";
 
-/// The delta update of an ended rendition of eight segments of a second each, where the skip limit is 6 s.
+/// The delta update of an ended rendition of eight segments of a second each, with a Skip Boundary of 6 s.
 const SKIPPED: &str = "#EXTM3U\n\
     #EXT-X-VERSION:10\n\
     #EXT-X-TARGETDURATION:1\n\
@@ -71,7 +72,7 @@ const SKIPPED: &str = "#EXTM3U\n\
     s7.m4s\n\
     #EXT-X-ENDLIST\n";
 
-/// Two renditions, of which the first has ended.
+/// The settings and items of two renditions, of which the first has ended.
 const TWO: &str =
     "channel cam target=4 part=1000000 skip=24 window=36 renditions=hi,lo first=0 start=0
 part lo 999999 if
@@ -80,10 +81,10 @@ part lo 1000000 -
 range hi ID=\"ad 1\",START-DATE=\"1970-01-01T00:00:00Z\",DURATION=1.5
 end hi";
 
-/// What comes later: it changes the playlist of either rendition.
+/// A later item, which changes the playlists of both renditions.
 const LATER: &str = "part lo 1000000 f";
 
-/// Segments of a second, of which delta updates skip those that have more than 6 s after them.
+/// Settings and items of eight segments of a second each; delta updates skip those with more than 6 s after them.
 const ONE: &str = "channel cam target=1 part=1000000 skip=6 window=9 renditions=hi first=0 start=0
 part hi 1000000 f
 part hi 1000000 f
@@ -95,7 +96,7 @@ part hi 1000000 f
 part hi 1000000 f
 end hi";
 
-/// The text of a name.
+/// Returns the text of a name.
 fn text_of(name: &str) -> &str {
     match name {
         "TWO" => TWO,
@@ -105,7 +106,7 @@ fn text_of(name: &str) -> &str {
     }
 }
 
-/// The name of a playlist, or a playlist that has none.
+/// Returns the name of a playlist, or the playlist if it has none.
 fn name_of(text: &str) -> &str {
     for (name, playlist) in [("ENDED", ENDED), ("BROKEN", BROKEN), ("SKIPPED", SKIPPED)] {
         if playlist == text {
@@ -123,7 +124,7 @@ pub(crate) struct Channel {
 }
 
 impl Channel {
-    /// The channel of this name before its items, and its items' lines.
+    /// Returns the channel of this name before its items, and the lines of these.
     pub(crate) fn named(alloc: Global, name: &str) -> Result<(Channel, &str), SettingsFault> {
         let (line, items) = text_of(name).split_once('\n').unwrap_or(("", ""));
         let settings = Settings::read(alloc, line)?;
@@ -139,7 +140,7 @@ impl Channel {
         }
     }
 
-    /// Adds the items of these lines: whether each is taken.
+    /// Publishes the items of `lines`. Returns whether each is accepted.
     fn publish(&mut self, alloc: Global, lines: &str) -> bool {
         for line in lines.lines() {
             if !self.publish_line(alloc, line) {
@@ -149,7 +150,7 @@ impl Channel {
         true
     }
 
-    /// Adds the item of a line: whether it is taken.
+    /// Publishes the item of `line`. Returns whether it is accepted.
     pub(crate) fn publish_line(&mut self, alloc: Global, line: &str) -> bool {
         let Ok(item) = Item::read(alloc, &self.settings, line, &Payload::none()) else {
             return false;
@@ -161,7 +162,7 @@ impl Channel {
     }
 }
 
-/// What is kept of renditions without items.
+/// Returns what is kept of renditions without items.
 fn no_items(alloc: Global, settings: &Settings) -> Result<Vec<Rendition>, AllocError> {
     let mut renditions = Vec::new(alloc);
     for _ in settings.renditions() {
@@ -172,7 +173,7 @@ fn no_items(alloc: Global, settings: &Settings) -> Result<Vec<Rendition>, AllocE
     Ok(renditions)
 }
 
-/// Adds an item: whether it is taken.
+/// Adds an item. Returns whether it is accepted.
 fn push(kept: &mut Rendition, item: Item) -> bool {
     let end = kept.window.end_time();
     match item {
@@ -224,7 +225,7 @@ TWO | 0 | YES => ENDED
 TWO | 1 | v2 => BROKEN
 ONE | 0 | YES => SKIPPED";
 
-/// Adds the playlist of a view, where this may be skipped, or what the view tells.
+/// Appends the playlist of a view in the form that `skip` names, or the counts of the view if it names none.
 fn add_view(
     alloc: Global,
     told: &mut String,
@@ -240,8 +241,8 @@ fn add_view(
     told.push_str(name_of(text?.as_str()))
 }
 
-/// A channel, the index of a rendition, the form of a page, and what comes after the page is made: what the page tells then, what its copy
-/// tells, and the rendition and the count of its view.
+/// A channel, the index of a rendition, the form of a page, and what is published after the page was made; then what the page says, what its copy
+/// says, and the rendition and the count of its view.
 pub(crate) const PAGES: &str = "page: page
 TWO | 0 | full | LATER => ENDED 9 0 None, ENDED 9 0 None, 0 9
 TWO | 1 | full | LATER => BROKEN 9 1 None, BROKEN 9 1 None, 1 9
@@ -279,7 +280,7 @@ fn page(
     Page::make(alloc, &shown, rendition, form)
 }
 
-/// Adds what a page tells, the same of its copy, and the rendition and the count of its view.
+/// Appends what a page says, the same of its copy, and the rendition and the count of its view.
 fn add_both(told: &mut String, page: &Page) -> Result<(), AllocError> {
     add_page(told, page)?;
     add_copy(told, page)?;
@@ -292,14 +293,14 @@ fn add_copy(told: &mut String, page: &Page) -> Result<(), AllocError> {
     add_page(told, &copy)
 }
 
-/// Adds what a page tells: its text, its number, its rendition and its form.
+/// Appends what a page says: its text, its number, its rendition and its form.
 fn add_page(told: &mut String, page: &Page) -> Result<(), AllocError> {
     let (number, rendition, form) = (page.number(), page.rendition(), page.form());
     let name = name_of(page.text());
     write!(told, "{name} {number} {rendition} {form:?}, ")
 }
 
-/// A channel, the index of a rendition, and its page that is made of a copy of what is shown.
+/// A channel, the index of a rendition, and its page, made from a copy of what is shown.
 pub(crate) const SHARED: &str = "page: shared
 TWO | 0 => ENDED
 TWO | 1 => BROKEN
@@ -318,8 +319,8 @@ fn add_shared(
     }
 }
 
-/// A channel, the index of a rendition, and what its view tells: its rendition, its count, the channel, segments and date ranges of its
-/// rendition, and how many renditions there are.
+/// A channel, the index of a rendition, and what its view says: the index, the count, the channel, how many segments and date ranges the rendition
+/// has, and how many renditions there are.
 pub(crate) const OF_ONE: &str = r#"page: view
 TWO | 0 => (0, 9, "cam", 0, 1, 2)
 TWO | 1 => (1, 9, "cam", 1, 0, 2)

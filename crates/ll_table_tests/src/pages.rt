@@ -1,11 +1,11 @@
-//! A playlist.
+//! A playlist that tests share.
 use ll_item::{Item, Payload, Settings};
 use ll_page::{Page, Rendition, Shown};
 use ll_range::Ranges;
 use ll_window::Window;
 use std::alloc::{AllocError, Global};
 
-/// The playlist of a channel to which one part was published, where memory is found. Its text has 426 bytes.
+/// Returns the playlist of a channel in which one part was published. Its text has 426 bytes.
 pub(crate) fn page_of_one_part(alloc: Global) -> Result<Option<Page>, AllocError> {
     let line = "channel cam target=4 part=1000000 skip=24 window=36 renditions=hi first=0 start=0";
     match Settings::read(alloc, line) {

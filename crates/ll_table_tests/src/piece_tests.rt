@@ -1,12 +1,12 @@
-//! Pages that are joined from pieces, as these go on from moment to moment.
+//! A table of pages that are joined from the pieces of one moment after another.
 use crate::page_tests::Channel;
 use crate::rows::{column, number};
 use ll_attr::Text;
 use ll_page::{Page, Pieces, Shown, SkipKind, delta, full};
 use std::alloc::{AllocError, Global};
 
-/// A channel, the index of a rendition, and how many pieces are kept before each next moment: how many pages are joined, and how many of
-/// them differ from the page that is written anew.
+/// A channel, the index of a rendition, how many pieces are kept before each next moment, how many pages are joined, and how many of them differ from
+/// the page that is written anew.
 pub(crate) const CHANNELS: &str = "piece: joined
 TWO | 0 | 9 => 10 0
 TWO | 1 | 9 => 10 0
@@ -22,7 +22,7 @@ struct Joined {
 }
 
 impl Joined {
-    /// One page more: it has this text, or differs.
+    /// Counts a page, which differs unless it has this text.
     fn note(&mut self, page: Result<Option<Page>, AllocError>, text: Result<Text, AllocError>) {
         let is_same = match (page, text) {
             (Ok(Some(page)), Ok(text)) => page.text() == text.as_str(),
@@ -44,7 +44,7 @@ pub(crate) fn add_answer(alloc: Global, told: &mut String, input: &str) -> Resul
     }
 }
 
-/// The pages after each item of these lines.
+/// Joins the pages after each item of `lines`, and counts them.
 fn join(
     alloc: Global,
     mut channel: Channel,
@@ -66,7 +66,7 @@ fn join(
     Ok(all)
 }
 
-/// The pieces of a moment.
+/// Returns the pieces of a moment, and counts its pages.
 fn go_on(
     alloc: Global,
     channel: &Channel,
@@ -78,7 +78,7 @@ fn go_on(
     join_moment(alloc, &shown, rendition, before, all)
 }
 
-/// The pieces of a moment, from which its full playlist and its delta update are joined.
+/// Returns the pieces of a moment, joins its full playlist and its delta update from them, and counts both.
 fn join_moment(
     alloc: Global,
     shown: &Shown,

@@ -1,10 +1,10 @@
-//! A removal is recent for six seconds of parts.
+//! Tables of date ranges and their removals, which are recent for six seconds of parts.
 use crate::rows::{Bench, column, number};
 use ll_attr::{AttrList, Text};
 use ll_range::{RangeError, RangeFault, Ranges};
 use std::alloc::{AllocError, Global};
 
-/// The attributes of a date range that may be added.
+/// The attributes of a date range that can be added.
 const GOOD: &str = "START-DATE=\"2024-02-29T12:00:00Z\"";
 
 pub(crate) fn add_answer(
@@ -29,7 +29,7 @@ pub(crate) fn add_answer(
     }
 }
 
-/// Adds the answer to a change.
+/// Appends the answer to a change.
 fn add_change(
     alloc: Global,
     told: &mut String,
@@ -41,7 +41,7 @@ fn add_change(
     told.push(' ')
 }
 
-/// Adds the result of a change or of a test.
+/// Appends the result of a change or of a test.
 fn add_result(told: &mut String, answer: Result<(), RangeError>) -> Result<(), AllocError> {
     match answer {
         Ok(()) => told.push_str("Ok(())"),
@@ -49,7 +49,7 @@ fn add_result(told: &mut String, answer: Result<(), RangeError>) -> Result<(), A
     }
 }
 
-/// Does what a word says, where all parts last so long.
+/// Makes the change or the test that `word` names, when all parts together last `end` microseconds.
 fn change(
     alloc: Global,
     ranges: &mut Ranges,
@@ -69,7 +69,7 @@ fn change(
     }
 }
 
-/// What a test answers, as what a change answers.
+/// Returns the result of a test in the form of the result of a change.
 fn refused(answer: Result<(), RangeFault>) -> Result<(), RangeError> {
     match answer {
         Ok(()) => Ok(()),
@@ -84,7 +84,7 @@ fn add(alloc: Global, ranges: &mut Ranges, end: u64, id: &str) -> Result<(), Ran
     }
 }
 
-/// Whether an id may be added with these attributes, which are a list.
+/// Returns whether an id can be added with `attributes`, which are a list.
 fn test_add(
     alloc: Global,
     ranges: &Ranges,
@@ -98,7 +98,7 @@ fn test_add(
     }
 }
 
-/// Adds the ids that are listed, each with the time of its adding.
+/// Appends the ids that are listed, each with the time of its adding.
 fn add_listed(told: &mut String, ranges: &Ranges) -> Result<(), AllocError> {
     for place in 0..ranges.count() {
         if let Some(range) = ranges.listed(place) {
@@ -108,7 +108,7 @@ fn add_listed(told: &mut String, ranges: &Ranges) -> Result<(), AllocError> {
     told.push('|')
 }
 
-/// Adds these ids.
+/// Appends these ids.
 fn add_ids(told: &mut String, ids: &[Text]) -> Result<(), AllocError> {
     for id in ids {
         write!(told, " {id}")?;
@@ -116,7 +116,7 @@ fn add_ids(told: &mut String, ids: &[Text]) -> Result<(), AllocError> {
     Ok(())
 }
 
-/// Adds the ids that are listed, and after a bar those that were removed recently.
+/// Appends the ids that are listed, and after a bar those that were removed recently.
 fn add_state(
     alloc: Global,
     told: &mut String,
@@ -128,14 +128,14 @@ fn add_state(
     add_ids(told, &ids)
 }
 
-/// Adds the state of a copy.
+/// Appends the state of a copy.
 fn add_copy(alloc: Global, told: &mut String, ranges: &Ranges, end: u64) -> Result<(), AllocError> {
     let copy = ranges.copy()?;
     add_state(alloc, told, &copy, end)
 }
 
-/// What is done with an id, where all parts last so long, and as of what end is told: the answer, the ids that are listed, each with the
-/// time of its adding, and after a bar those that were removed recently.
+/// What is done with an id, how long all parts last then, and how long at the moment that is shown; the answer, the ids that are listed, each with
+/// the time of its adding, and after a bar those that were removed recently.
 pub(crate) const CHANGES: &str = "range: change
 begin channel cam target=1 part=1000000 skip=6 window=9 renditions=hi first=0 start=0 => begun
 test add | c | 0 | 0 => Ok(()) |
@@ -163,7 +163,7 @@ add | a | 0 | 0 => Ok(()) a 0 |
 remove | a | 0 | 0 => Ok(()) | a
 expire | a | 6000001 | 0 => Ok(()) |";
 
-/// Attributes, alone and with a start: only with it may they be added.
+/// Attributes, and whether they can be added without START-DATE and with it.
 pub(crate) const ATTRIBUTES: &str = r#"range: attributes
 CLASS="" => (Err(BadAttribute), Ok(()))
 END-DATE="2024-02-29T12:00:00.5+01:00" => (Err(BadAttribute), Ok(()))
@@ -202,7 +202,7 @@ fn add_tests(
     told.push(')')
 }
 
-/// An id, and whether it may be added.
+/// An id, and whether it can be added.
 pub(crate) const IDS: &str = "range: id
 a b,c='größe' => Ok(())
  => Err(BadAttribute)

@@ -1,4 +1,4 @@
-//! What each fault of reading playlists is called, which no contract says of those that `thiserror` spells.
+//! A table of the names of `ReadFault`, which `thiserror` writes and no contract pins.
 use ll_read::ReadFault;
 use std::alloc::AllocError;
 

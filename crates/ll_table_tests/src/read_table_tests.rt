@@ -1,4 +1,4 @@
-//! Which lines may stand where: each row is a text, by words for its lines, and what it comes to.
+//! Tables of which lines can stand where in a playlist: each row is a text, in words for its lines, and its counts or its fault.
 use crate::read_tests::add_counts;
 use std::alloc::{AllocError, Global};
 
@@ -33,7 +33,7 @@ const LINES: [(&str, &str); 18] = [
     ("end", "#EXT-X-ENDLIST"),
 ];
 
-/// The line of a word. What is no such word is a line itself.
+/// Returns the line of a word; any other word is a line itself.
 fn line(word: &str) -> &str {
     for (name, line) in LINES {
         if name == word {
@@ -64,7 +64,7 @@ pub(crate) fn add_answer(
     }
 }
 
-/// Adds what a text comes to whose lines these words stand for, each with the end LF, and what it comes to with CR LF where that differs.
+/// Appends the counts or the fault of the text of `words` with LF after each line, and if they differ, those with CR LF.
 fn add_lines_of_both_ends(alloc: Global, told: &mut String, words: &str) -> Result<(), AllocError> {
     add_lines(alloc, told, words, "\n")?;
     let mut other = String::new(alloc);
@@ -75,7 +75,7 @@ fn add_lines_of_both_ends(alloc: Global, told: &mut String, words: &str) -> Resu
     write!(told, ", with CR LF {other}")
 }
 
-/// Adds what a text comes to whose lines these words stand for, each with this end.
+/// Appends the counts or the fault of the text of `words` with `end` after each line.
 fn add_lines(alloc: Global, told: &mut String, words: &str, end: &str) -> Result<(), AllocError> {
     let words = words.replace(alloc, "header", HEADER)?;
     let text = lines(alloc, words.as_str(), end)?;
@@ -90,7 +90,7 @@ fn lines(alloc: Global, words: &str, end: &str) -> Result<String, AllocError> {
     Ok(text)
 }
 
-/// A line of the header is missing, stands twice, or stands before the one that it belongs after.
+/// A line of the header is missing, stands twice, or stands before one that it has to follow.
 pub(crate) const HEADERS: &str = "lines: both ends
 first version target control inf sequence breaks end => 0 0 0
 version target control inf sequence breaks end => NotPlaylist
@@ -115,7 +115,7 @@ first version target control sequence inf breaks end => BadLine 5
 first version target control inf breaks sequence end => BadLine 6
 first version target control inf sequence end breaks => BadLine 7";
 
-/// The text ends after a line of each kind.
+/// Texts that end after a line of each kind.
 pub(crate) const EARLY: &str = "lines: both ends
 first => BadLine 2
 first version => BadLine 3
@@ -197,7 +197,7 @@ header hint end => BadLine 9
 header end report => BadLine 9
 header end uri => BadLine 9"#;
 
-/// Bytes that are no text, by their digits.
+/// Bytes that are no text, in hexadecimal.
 pub(crate) const BYTES: &str = "lines: bytes
 ff => NotPlaylist
 23 45 58 54 4d 33 55 0a c3 0a => NotPlaylist";

@@ -1,3 +1,4 @@
+//! Tables of playlists that are read and written again.
 use crate::rows::column;
 use ll_read::{Playlist, read, read_outline};
 use std::alloc::{AllocError, Global};
@@ -56,7 +57,7 @@ pub(crate) fn add_answer(
     }
 }
 
-/// The end of the full playlist's lines: what it comes to, told without memory and as it is read, and what it is written as then.
+/// The end of the full playlist's lines; its outline, without memory and as it is read; and what it is written as then.
 pub(crate) const OF_FULL: &str = "read: full
 LF => Outline { sequence: 7, segments: 2, skipped: None }, Outline { sequence: 7, segments: 2, skipped: None }, the same text
 CR LF => Outline { sequence: 7, segments: 2, skipped: None }, Outline { sequence: 7, segments: 2, skipped: None }, the same text";
@@ -66,7 +67,7 @@ pub(crate) const OF_DELTA: &str = "read: delta
 LF => Outline { sequence: 5, segments: 1, skipped: Some(3) }, Outline { sequence: 5, segments: 1, skipped: Some(3) }, the same text
 CR LF => Outline { sequence: 5, segments: 1, skipped: Some(3) }, Outline { sequence: 5, segments: 1, skipped: Some(3) }, the same text";
 
-/// Adds what a text comes to whose lines end in LF, or in CR LF in its place.
+/// Appends the outline and the text of a playlist whose lines end in LF, or in CR LF in its place.
 fn add_again(alloc: Global, told: &mut String, text: &str, end: &str) -> Result<(), AllocError> {
     let end = if end == "LF" { "\n" } else { "\r\n" };
     let other = text.replace(alloc, "\n", end)?;
@@ -78,7 +79,7 @@ fn add_again(alloc: Global, told: &mut String, text: &str, end: &str) -> Result<
     }
 }
 
-/// Adds what a playlist comes to, and what it is written as: a text, or another.
+/// Appends the outline of a playlist, and whether it is written as `text`.
 fn add_written(
     alloc: Global,
     told: &mut String,
@@ -94,7 +95,7 @@ fn add_written(
     write!(told, "{:?}, {name}", playlist.outline())
 }
 
-/// Adds what a text comes to: how many date ranges, segments and reports it has, or its fault.
+/// Appends how many date ranges, segments and reports a text has, or its fault.
 pub(crate) fn add_counts(alloc: Global, told: &mut String, text: &[u8]) -> Result<(), AllocError> {
     match read(alloc, text) {
         Ok(p) => write!(
@@ -108,7 +109,7 @@ pub(crate) fn add_counts(alloc: Global, told: &mut String, text: &[u8]) -> Resul
     }
 }
 
-/// Adds what the full playlist comes to with another text in place of a part of it. Its lines are 24.
+/// Appends the counts or the fault of the full playlist with one of its texts replaced by another. It has 24 lines.
 fn add_changed(alloc: Global, told: &mut String, input: &str) -> Result<(), AllocError> {
     let Some((before, after)) = FULL.split_once(column(input, 0)) else {
         return told.push_str("it does not stand in the text");

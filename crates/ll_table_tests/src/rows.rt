@@ -1,6 +1,6 @@
-//! Tables of tests. A table is a text: its title, and then a row on each line, which has what is asked, an arrow, and what must come of
-//! it. The title says which functions tell that, a group and one of it. Columns before the arrow are parted by bars. A sign ␊ stands for
-//! a line feed. Blanks count. A row that begins with `begin` makes the bench anew, of these settings.
+//! Tables of tests. A table is a text: a title, and then a row on each line, with an input, an arrow, and the expected answer. The title names a
+//! group and a question, by which the functions that answer are chosen. Columns of an input are separated by bars. A sign ␊ stands for a line feed.
+//! Blanks count. A row that begins with `begin` makes the bench anew, with the settings after that word.
 use crate::{
     attr_tests, attribute_tests, directive_tests, fault_tests, feed_tests, item_tests, page_tests,
     piece_tests, range_tests, read_fault_tests, read_table_tests, read_tests, session_tests,
@@ -13,7 +13,7 @@ use std::alloc::{AllocError, Global};
 use std::process::Abort;
 use std::test::Fail;
 
-/// The settings that each table begins with.
+/// The settings with which each table begins.
 pub(crate) const LINE: &str =
     "channel cam target=4 part=1000000 skip=24 window=36 renditions=lo,hi first=7 start=1700000000000";
 
@@ -26,7 +26,7 @@ pub(crate) struct Bench {
 }
 
 impl Bench {
-    /// A rendition without items under these settings.
+    /// Returns a rendition without items under the settings of `line`.
     fn new(alloc: Global, line: &str) -> Option<Bench> {
         let settings = Settings::read(alloc, line).ok()?;
         let window = Window::new(alloc, &settings).ok()?;
@@ -144,7 +144,7 @@ fn check_rows(
     Ok(())
 }
 
-/// What is told of what stands before the arrow of a row stands after it.
+/// Compares the answer to the input of a row with what stands after the arrow.
 fn check_row(
     rt: &impl Abort,
     alloc: Global,
@@ -162,7 +162,7 @@ fn compare(rt: &impl Abort, row: &str, told: &str, answer: &str) {
     assert!(rt; told == answer, "at {row}: {told}");
 }
 
-/// What is told of what stands before the arrow of a row.
+/// Returns the answer to an input.
 fn told(alloc: Global, bench: &mut Bench, title: &str, input: &str) -> Result<String, AllocError> {
     let mut told = String::new(alloc);
     match input.strip_prefix("begin ") {
@@ -218,17 +218,17 @@ fn add_answer(
     }
 }
 
-/// A column of what stands before an arrow.
+/// Returns the column `place`, from 0, of an input.
 pub(crate) fn column(input: &str, place: usize) -> &str {
     input.split(" | ").nth(place).unwrap_or("")
 }
 
-/// The number of a column. None stands for a word that is no number, and 999 is none of these rows.
+/// Returns the number in a column, or 999, which is in no row, if the column has no number.
 pub(crate) fn number(input: &str, place: usize) -> u64 {
     column(input, place).parse::<u64>().unwrap_or(999)
 }
 
-/// The bytes of a text, of which each character is one byte, by its number.
+/// Returns the bytes of a text of which each character stands for the byte of its number.
 pub(crate) fn bytes(alloc: Global, text: &str) -> Result<Vec<u8>, AllocError> {
     let mut bytes = Vec::new(alloc);
     for letter in text.chars() {

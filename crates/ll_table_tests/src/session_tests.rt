@@ -1,3 +1,4 @@
+//! Tables of sessions: the bytes of a connection, and its answers in order.
 use crate::pages::page_of_one_part;
 use crate::rows::{column, number};
 use ll_page::Page;
@@ -54,7 +55,7 @@ fn send_all(session: &mut Session, notes: &mut String) -> Result<(), AllocError>
     notes.push_str(if session.shut() { "shut" } else { "open" })
 }
 
-/// Notes what its head tells of an answer.
+/// Notes what the head of an answer says.
 fn note_answer(head: &[u8], notes: &mut String) -> Result<(), AllocError> {
     let text = str::from_utf8(head).unwrap_or("");
     notes.push_str(text.get(9..12).unwrap_or(""))?;
@@ -65,7 +66,7 @@ fn note_answer(head: &[u8], notes: &mut String) -> Result<(), AllocError> {
     })
 }
 
-/// All that comes of these two pieces.
+/// Notes the answers to the two pieces.
 fn talk(session: &mut Session, notes: &mut String, pieces: [&[u8]; 2]) -> Result<(), AllocError> {
     for piece in pieces {
         session.feed(piece)?;
@@ -74,7 +75,7 @@ fn talk(session: &mut Session, notes: &mut String, pieces: [&[u8]; 2]) -> Result
     send_all(session, notes)
 }
 
-/// The same of a new session.
+/// Notes the answers that a new session gives to the two pieces.
 fn add_talk(alloc: Global, notes: &mut String, pieces: [&[u8]; 2]) -> Result<(), AllocError> {
     let mut session = Session::new(alloc);
     let done = talk(&mut session, notes, pieces);
@@ -90,7 +91,7 @@ fn talk_bytes(session: &mut Session, notes: &mut String, bytes: &[u8]) -> Result
     send_all(session, notes)
 }
 
-/// What comes of these bytes one by one.
+/// Notes the answers to these bytes, which come one by one.
 fn add_talk_of_bytes(alloc: Global, notes: &mut String, bytes: &[u8]) -> Result<(), AllocError> {
     let mut session = Session::new(alloc);
     let done = talk_bytes(&mut session, notes, bytes);
@@ -98,7 +99,7 @@ fn add_talk_of_bytes(alloc: Global, notes: &mut String, bytes: &[u8]) -> Result<
     done
 }
 
-/// Adds what comes of all bytes at once, and what comes of one after another where that differs.
+/// Appends the answers to all bytes at once, and if they differ, those to the bytes one by one.
 fn add_both_ways(alloc: Global, told: &mut String, input: &str) -> Result<(), AllocError> {
     add_talk(alloc, told, [input.as_bytes(), b""])?;
     let mut single = String::new(alloc);
@@ -124,7 +125,7 @@ GET /a/v/live.m3u8 HTTP/1.1␊Host:␊Connection: close␊␊GET /b/v/live.m3u8 
 pub(crate) const CUT: &str = "session: cut
 GET /x HTTP/1.1␊Host:␊␊GET # HTTP/1.1␊Host:␊␊GET /a/v/live.m3u8 HTTP/1.1␊Host:␊␊ => a 404+ 400+ 404+ open";
 
-/// Adds the answers to bytes that are not cut, and then those to bytes that are cut somewhere, where they differ.
+/// Appends the answers to bytes that aren't cut, and those to bytes cut at each place where they differ.
 fn add_cuts(alloc: Global, told: &mut String, input: &str) -> Result<(), AllocError> {
     add_talk(alloc, told, [input.as_bytes(), b""])?;
     let whole = told.clone()?;
@@ -139,7 +140,7 @@ fn add_cuts(alloc: Global, told: &mut String, input: &str) -> Result<(), AllocEr
     Ok(())
 }
 
-/// A request that is held, of how many bytes two pieces are that come then, and what comes of them: few bytes may wait.
+/// A request that is held, how many bytes each of the two later pieces has, and what is answered: only few bytes are allowed to wait.
 pub(crate) const HELD: &str = "session: held
 GET /a/v/live.m3u8 HTTP/1.1␊Host:␊␊ | 16384 | 0 => a held  held 
 GET /a/v/live.m3u8 HTTP/1.1␊Host:␊␊ | 16385 | 0 => a none  none 431- 
@@ -177,13 +178,13 @@ fn hold(
     send_answers(session, notes)
 }
 
-/// So many bytes come.
+/// Feeds `count` bytes to the session.
 fn feed_count(alloc: Global, session: &mut Session, count: usize) -> Result<(), AllocError> {
     let bytes = "x".repeat(alloc, count)?;
     session.feed(bytes.as_str().as_bytes())
 }
 
-/// Sends all that is put out, so many bytes at a time, and gives what was sent.
+/// Sends all answers, `step` bytes at a time, and returns what was sent.
 fn sent_by(alloc: Global, session: &mut Session, step: usize) -> Result<Vec<u8>, AllocError> {
     let mut text = Vec::new(alloc);
     for _ in 0..999 {
@@ -199,7 +200,7 @@ fn sent_by(alloc: Global, session: &mut Session, step: usize) -> Result<Vec<u8>,
     Ok(text)
 }
 
-/// Answers one request with this playlist and the next one with NotFound.
+/// Answers one request with `page`, and the next one with NotFound.
 fn put_out(session: &mut Session, page: &Page) -> Result<(), AllocError> {
     session.feed(b"GET /a/v/live.m3u8 HTTP/1.1\nHost:\n\nGET /a/v/live.m3u8 HTTP/1.1\nHost:\n\n")?;
     for answer in [
@@ -214,7 +215,7 @@ fn put_out(session: &mut Session, page: &Page) -> Result<(), AllocError> {
     Ok(())
 }
 
-/// How many bytes of two answers are sent at a time, how many are put out, and whether these are what is sent.
+/// How many bytes of two answers are sent at a time, how many bytes the answers have, and whether these are sent.
 pub(crate) const SENT: &str = "session: sent
 1 => 689 true
 100 => 689 true

@@ -1,4 +1,4 @@
-//! The expected times and milliseconds are those of Python's `datetime`.
+//! Tables of UTC times and dates. The expected times and milliseconds are those of Python's `datetime`.
 use crate::rows::number;
 use ll_format::{UtcTime, is_date_time};
 use std::alloc::AllocError;
@@ -29,7 +29,7 @@ pub(crate) const TURNS: &str = "time: time
 13574563200000 => 2400-02-29T00:00:00.000Z
 253402300799999 => 9999-12-31T23:59:59.999Z";
 
-/// One moment of each quarter of a millennium.
+/// A moment in each quarter of a millennium.
 pub(crate) const CENTURIES: &str = "time: time
 2564373990098 => 2051-04-06T06:06:30.098Z
 9113369642070 => 2258-10-16T19:34:02.070Z
@@ -64,7 +64,7 @@ pub(crate) const CENTURIES: &str = "time: time
 242624098969936 => 9658-06-14T07:02:49.936Z
 248432428716841 => 9842-07-06T07:58:36.841Z";
 
-/// There is no time past the year 9999.
+/// No time is later than the year 9999.
 pub(crate) const LAST: &str = "time: time
 253402300799999 => 9999-12-31T23:59:59.999Z
 253402300800000 => None

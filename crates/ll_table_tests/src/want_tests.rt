@@ -1,4 +1,5 @@
-//! Items are letters: p is a part of 10 ms, f one that finishes its segment, e the end. The largest media sequence number is 1152921504606846976.
+//! Tables of what a request awaits. Items are letters: p is a part of 10 ms, f one that finishes its segment, F a finish, e the end. The largest
+//! Media Sequence Number is 1152921504606846976.
 use crate::rows::{Bench, column, number};
 use ll_item::{Item, Media, PartItem};
 use ll_window::{PushError, Window};
@@ -18,7 +19,7 @@ pub(crate) fn add_answer(
     }
 }
 
-/// Adds the items of these letters.
+/// Publishes the items of `letters`.
 fn push(window: &mut Window, letters: &str) -> Result<(), PushError> {
     for letter in letters.chars() {
         window.push(match letter {
@@ -55,7 +56,7 @@ fn add_told(
     write!(told, "{}", window.far(msn, part))
 }
 
-/// The items, and the number and index of a part: whether that part is held, and a segment of that number.
+/// Items, the number and the index of a part, and whether that part is there, and a whole segment of that number.
 pub(crate) const HELD: &str = "want: held
 begin channel cam target=4 part=1000000 skip=24 window=36 renditions=hi first=0 start=0 => begun
  | 0 | 0 => (false, false)
@@ -85,7 +86,7 @@ f | 1152921504606846976 | 0 => (true, true)
 f | 1152921504606846977 | 0 => (false, false)
 f | 18446744073709551615 | 18446744073709551615 => (false, false)";
 
-/// The items, and the number of a segment, with the index of a part or without one: whether it is far ahead.
+/// Items, the number of a segment, and the index of a part or `-`; whether a request for it is too far ahead.
 pub(crate) const FAR: &str = "want: far
 begin channel cam target=4 part=1000000 skip=24 window=36 renditions=hi first=0 start=0 => begun
  | 0 | 0 => false

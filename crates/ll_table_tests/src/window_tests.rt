@@ -1,6 +1,6 @@
-//! Items are words: `b` for a break, `e` for the end, `1000000` for a part of so many microseconds, `1000000f` for one that finishes its
-//! segment, and `7x1000000f` for seven of them. The largest media sequence number is 1152921504606846976, and the last
-//! millisecond of the year 9999 is 253402300799999.
+//! Tables of windows. Items are words: `b` for a break, `b5000` for one that sets this time, `F` for a finish, `e` for the end, `1000000` for a part
+//! of this many microseconds, `1000000f` for one that finishes its segment, and `7x1000000f` for seven of them. The largest Media Sequence Number is
+//! 1152921504606846976, and the last millisecond of the year 9999 is 253402300799999.
 use crate::rows::{Bench, column};
 use ll_item::{Item, Media, PartItem};
 use ll_window::{PushError, Window};
@@ -24,7 +24,7 @@ pub(crate) fn add_answer(
     }
 }
 
-/// Adds what a window tells to which the items of the first column were pushed.
+/// Appends what a window says after the items of the first column.
 fn add_told(
     told: &mut String,
     window: &mut Window,
@@ -40,7 +40,7 @@ fn add_told(
     }
 }
 
-/// The item of a word: a part's duration, with `f` for finishing; `F` for a finish, `b` for a break, perhaps with its time, `e` for the end.
+/// Returns the item of a word.
 fn item(word: &str) -> Item {
     if let Some(time) = word.strip_prefix('b') {
         return Item::Break {
@@ -61,7 +61,7 @@ fn item(word: &str) -> Item {
     }
 }
 
-/// Adds the items of these words.
+/// Publishes the items of `words`.
 fn push(window: &mut Window, words: &str) -> Result<(), PushError> {
     for word in words.split_whitespace() {
         let (times, word) = word.split_once('x').unwrap_or(("1", word));
@@ -77,7 +77,7 @@ fn push_times(window: &mut Window, times: u64, word: &str) -> Result<(), PushErr
     Ok(())
 }
 
-/// What came before, and a part: what a test of it and its publication answer.
+/// Items, an item after them, and the results of its test and of its publication.
 pub(crate) const RULES: &str = "window: rule
 begin channel cam target=1 part=1000000 skip=6 window=9 renditions=hi first=0 start=0 => begun
  | 0f => (Err(BadDuration), Err(BadDuration))
@@ -134,8 +134,8 @@ begin channel cam target=1 part=1000000 skip=6 window=9 renditions=hi first=1152
 1000000 F | 1000000f => (Err(CountEnd), Err(CountEnd))
 1000000 F | F => (Err(NoSegment), Err(NoSegment))";
 
-/// An item that comes after those of the rows above: what a test of it and its publication answer, and what the window tells then.
-/// A refused item changes nothing.
+/// An item after those of the rows above, the results of its test and of its publication, and the state of the window then. A refused item changes
+/// nothing.
 pub(crate) const REFUSALS: &str = "window: step
 begin channel cam target=1 part=1000000 skip=6 window=9 renditions=hi first=7 start=0 => begun
 1000000f => (Ok(()), Ok(())) (1, 0, 8, 1000000, 0, Some(PartPosition { number: 7, index: 0 }), false)
@@ -151,7 +151,7 @@ e => (Ok(()), Ok(())) (3, 0, 10, 2000002, 0, Some(PartPosition { number: 9, inde
 b => (Err(Ended), Err(Ended)) (3, 0, 10, 2000002, 0, Some(PartPosition { number: 9, index: 0 }), true)
 e => (Err(Ended), Err(Ended)) (3, 0, 10, 2000002, 0, Some(PartPosition { number: 9, index: 0 }), true)";
 
-/// Adds what a test of an item and its publication answer.
+/// Appends the results of an item's test and of its publication.
 fn add_step(told: &mut String, window: &mut Window, word: &str) -> Result<(), AllocError> {
     let next = item(word);
     let tested = window.test(&next);
@@ -161,8 +161,8 @@ fn add_step(told: &mut String, window: &mut Window, word: &str) -> Result<(), Al
     }
 }
 
-/// Adds what a window tells beside its segments: how many they are, how many open parts there are, the next number, the end of
-/// all parts, how many broken segments have left, the number and index of the last part, and whether the rendition has ended.
+/// Appends the state of a window without its segments: how many segments and how many open parts there are, the next number, the end of all parts,
+/// how many broken segments have left, the position of the last part, and whether the rendition has ended.
 fn add_state(told: &mut String, window: &Window) -> Result<(), AllocError> {
     let state = (
         window.segment_count(),
@@ -176,8 +176,8 @@ fn add_state(told: &mut String, window: &Window) -> Result<(), AllocError> {
     write!(told, " {state:?}")
 }
 
-/// Segments of one part each, as many as told of each duration, and an open part: how many segments the window has then, and the number and time of
-/// the first.
+/// Segments of one part each, as many as stands before each duration, and an open part; how many segments the window has then, and the number and the
+/// time of the first.
 pub(crate) const LEAVING: &str = "window: first
 begin channel cam target=1 part=1000000 skip=6 window=9 renditions=hi first=7 start=1 => begun
 2x1000000f 7x1000000f 1x999999f 1000000 => 10 7 1000
@@ -199,7 +199,7 @@ fn add_first(told: &mut String, window: &Window) -> Result<(), AllocError> {
     }
 }
 
-/// So many segments of a second each, an open part, and how many segments are skipped where the limit is 6 s.
+/// Segments of a second each, an open part, and how many segments are skipped with a Skip Boundary of 6 s.
 pub(crate) const SKIPPED: &str = "window: skipped
 begin channel cam target=1 part=1000000 skip=6 window=9 renditions=hi first=0 start=0 => begun
 6x1000000f 1000000 => 0
@@ -208,7 +208,7 @@ begin channel cam target=1 part=1000000 skip=6 window=9 renditions=hi first=0 st
 9x1000000f 1000000 => 3
 12x1000000f 1000000 => 3";
 
-/// Items, and then how many broken segments have left and what the window tells of its segments.
+/// Items, how many broken segments have left then, and the segments of the window.
 pub(crate) const SEGMENTS: &str = "window: segments
 begin channel cam target=1 part=1000000 skip=6 window=9 renditions=hi first=7 start=1 => begun
 b 1000000f b 500000 250000f 1000000f b 750000 => 0: (7, true, 1, 1000, 1000000, 1)(8, true, 2, 1001000, 750000, 2)(9, false, 2, 1751000, 1000000, 1)(10, true, 3, 2751000, 750000, 0)
@@ -223,8 +223,8 @@ fn add_breaks_and_segments(told: &mut String, window: &Window) -> Result<(), All
     add_segments(told, window)
 }
 
-/// Adds what a window tells of its segments, the open one last: the number, whether it is broken, the map's number, the time, the
-/// duration, and how many parts are listed.
+/// Appends the segments of a window, the open one last: the number, whether it is broken, the map number, the time, the duration, and how many parts
+/// are listed.
 fn add_segments(told: &mut String, window: &Window) -> Result<(), AllocError> {
     for place in 0..=window.segment_count() {
         let listed = window.shown_parts(place).len();
@@ -236,7 +236,7 @@ fn add_segments(told: &mut String, window: &Window) -> Result<(), AllocError> {
     Ok(())
 }
 
-/// Items, and a later one: what the copy and the window tell of their segments before it, and what they tell after it.
+/// Items, and a later one; the segments of the copy and of the window before the later item, and after it.
 pub(crate) const COPY: &str = "window: copy
 begin channel cam target=1 part=1000000 skip=6 window=9 renditions=hi first=7 start=0 => begun
 1000000f b 1000000 | 1 => (7, false, 0, 0, 1000000, 1)(8, true, 1, 1000000, 1000000, 0) (7, false, 0, 0, 1000000, 1)(8, true, 1, 1000000, 1000000, 0) - (7, false, 0, 0, 1000000, 1)(8, true, 1, 1000000, 1000000, 0) (7, false, 0, 0, 1000000, 1)(8, true, 1, 1000000, 1000001, 0)";
@@ -251,7 +251,7 @@ fn add_copied(told: &mut String, window: &mut Window, later: &str) -> Result<(),
     }
 }
 
-/// Adds what two windows tell of their segments.
+/// Appends the segments of two windows.
 fn add_both(told: &mut String, one: &Window, other: &Window) -> Result<(), AllocError> {
     add_segments(told, one)?;
     told.push(' ')?;

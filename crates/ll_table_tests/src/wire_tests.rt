@@ -1,3 +1,4 @@
+//! Tables of the heads of requests, and of responses.
 use crate::pages::page_of_one_part;
 use crate::rows::{bytes, column, number};
 use ll_directive::TargetFault;
@@ -22,7 +23,7 @@ pub(crate) fn add_answer(
     }
 }
 
-/// Bytes, and what stands at their front.
+/// Bytes, and the head at their front.
 pub(crate) const HEADS: &str = "wire: head
 GET /a HTTP/1.1\r␊Host: a\r␊\r␊ => Whole(28, Request { from: 4, to: 6, keep: true })
 GET /a HTTP/1.1\r␊Host: a\r␊\r␊GET /b => Whole(28, Request { from: 4, to: 6, keep: true })
@@ -80,7 +81,7 @@ POST /a HTTP/1.1\r␊Content-Length: 1\r␊\r␊ => Bad(BadHost)
 POST /a HTTP/1.1\r␊Host: a\r␊Content-Length: 1\r␊\r␊ => Bad(BadMethod)
 POST /a HTTP/1.1\r␊Host: a\r␊\x02 => Bad(BadHead)";
 
-/// A front, how often what follows comes, that, and an end: what stands at the front of them all.
+/// A prefix, how often the next text comes, that text, and an end; then the head at the front of them all.
 pub(crate) const LIMITS: &str = "wire: limit
 GET /a HTTP/1.1\r␊Host: a\r␊ | 63 | a: 1\r␊ | \r␊ => Whole(406, Request { from: 4, to: 6, keep: true })
 GET /a HTTP/1.1\r␊Host: a\r␊ | 64 | a: 1\r␊ | \r␊ => Bad(HeadTooLarge)
@@ -104,7 +105,7 @@ fn add_limit(alloc: Global, told: &mut String, input: &str) -> Result<(), AllocE
     write!(told, "{:?}", next_head(text.as_str().as_bytes()))
 }
 
-/// Targets may be any bytes until they end.
+/// Targets, in which bytes that are no UTF-8 are refused only at the end.
 pub(crate) const TARGETS: &str = "wire: bytes
 GET /\u{ff} => Part
 GET /\u{ff}\u{ff}x => Part
@@ -130,7 +131,7 @@ fn answer(name: &str) -> Answer {
     }
 }
 
-/// An answer, and whether the connection is kept: the lengths of its head and of its body.
+/// An answer, whether the connection is kept, and the lengths of its head and of its body.
 pub(crate) const LENGTHS: &str = "wire: length
 BadHost | shut => 125 0
 BadMethod | shut => 147 0
@@ -152,8 +153,8 @@ const METHOD: &str =
 const PLAYLIST: &str =
     "HTTP/1.1 200 OK\r\nContent-Type: application/vnd.apple.mpegurl\r\nContent-Length: 426\r\nCache-Control: no-cache\r\nConnection: keep-alive\r\n\r\n";
 
-/// An answer after which the connection is kept: whether its head is the one above, and then how long the playlist is that it has, and
-/// whether its body is that.
+/// An answer after which the connection is kept: whether its head is the one above; in the next table also how long its playlist is, and whether its
+/// body is that.
 pub(crate) const WHOLE: &str = "wire: method
 BadMethod => true";
 

@@ -1,4 +1,4 @@
-//! A channel, and what calls of it get.
+//! A recorded channel, and the results of its calls.
 use crate::tools::{CHANNEL, Tools};
 use ll_directive::{Want, read_target};
 use ll_item::{Item, Payload, Settings};
@@ -8,48 +8,48 @@ use ll_verdict::{ClockFault, PublishFault, Reply};
 use std::alloc::Global;
 use std::sync::Wait;
 
-/// A part that starts a segment, or goes on with one.
+/// The line of a part that doesn't finish its segment.
 pub const PART: &str = "part hi 1000000 i";
 
-/// The last part of a segment.
+/// The line of a part that finishes its segment.
 pub const LAST: &str = "part hi 1000000 f";
 
-/// A request for the first segment.
+/// The target of a request for the first segment.
 pub const SEGMENT: &str = "/cam/hi/s0.m4s";
 
-/// A request for the second part.
+/// The target of a request that awaits the second part.
 pub const SECOND: &str = "/cam/hi/live.m3u8?_HLS_msn=0&_HLS_part=1";
 
-/// A request that waits for nothing.
+/// The target of a request that waits for nothing.
 pub const NOW: &str = "/cam/hi/live.m3u8";
 
-/// More readings than a record of few events has memory for.
+/// More readings of the clock than a record with few entries has memory for.
 const READINGS: u64 = 200;
 
-/// What a call gets.
+/// The result of a call.
 #[derive(Clone, Copy, PartialEq, Eq)]
-pub enum Answer {
-    /// The item is accepted: so many are with it.
+pub enum CallResult {
+    /// The item is accepted: the channel has accepted this many items with it.
     Accepted(u64),
     /// The request is held under this ticket.
     Held(u64),
-    /// The request gets the playlist of so many items.
+    /// The request gets the playlist after this many items.
     Text(u64),
-    /// The request gets media of so many bytes.
+    /// The request gets media of this many bytes.
     Media(u64),
-    /// The request's time is over.
+    /// The request timed out.
     Timeout,
-    /// The reading is taken.
+    /// The reading of the clock is taken.
     Read,
-    /// The record has so many entries.
+    /// The record is handed out, with this many entries.
     Entries(u64),
-    /// No memory was found.
+    /// Out of memory.
     Memory,
-    /// Another answer.
+    /// Any other result.
     Other,
 }
 
-/// What is asked of a channel. It is made while no memory is refused.
+/// A call of a channel with its arguments, which are made while no memory is refused.
 #[derive(Drop)]
 pub enum Made {
     Publish(Item),
@@ -58,7 +58,7 @@ pub enum Made {
     Rotate,
 }
 
-/// A recorded channel and the values of its open requests, and what was handed out last.
+/// A recorded channel with the values of its open requests, and the reply and the record that it handed out last.
 pub struct Row {
     pub recorder: Recorder,
     pub(crate) kept: Vec<Stored>,
@@ -66,34 +66,34 @@ pub struct Row {
     pub(crate) chunk: Option<Chunk>,
 }
 
-/// What a line of a part announces, which has five bytes.
+/// Returns the item of `line`, with five bytes of media.
 pub fn item(alloc: Global, line: &str) -> Option<Item> {
     let settings = Settings::read(alloc, CHANNEL).ok()?;
     Item::read(alloc, &settings, line, &Payload::of_bytes(b"bytes")?).ok()
 }
 
-/// What a target asks for.
+/// Returns what a request for `target` asks for.
 pub fn want(alloc: Global, target: &str) -> Option<Want> {
     read_target(alloc, target.as_bytes()).ok()
 }
 
-/// What a reply is that was handed out.
-pub fn answer_in(reply: Stamped<Reply>) -> Answer {
+/// Returns the result of a call that has handed out `reply`.
+pub fn answer_in(reply: Stamped<Reply>) -> CallResult {
     answer_of(reply.get())
 }
 
-/// What a reply is.
-fn answer_of(reply: &Reply) -> Answer {
+/// Returns the result of a call that hands out `reply`.
+fn answer_of(reply: &Reply) -> CallResult {
     match reply {
-        Reply::Text(page) => Answer::Text(page.number()),
-        Reply::Media(piece) => Answer::Media(piece.bytes.len()),
-        Reply::Timeout => Answer::Timeout,
-        Reply::NotFound | Reply::TooFar | Reply::Busy => Answer::Other,
+        Reply::Text(page) => CallResult::Text(page.number()),
+        Reply::Media(piece) => CallResult::Media(piece.bytes.len()),
+        Reply::Timeout => CallResult::Timeout,
+        Reply::NotFound | Reply::TooFar | Reply::Busy => CallResult::Other,
     }
 }
 
 impl Row {
-    /// A channel that has had a part, and then three requests which wait for the next.
+    /// Returns a channel that has taken a part, and then three requests that wait for the next part.
     pub fn prepared<R: Wait>(tools: &Tools<'_, R>) -> Option<Row> {
         let mut row = Row::new(tools.alloc)?;
         match row.prepare(tools.alloc) {
@@ -105,7 +105,7 @@ impl Row {
         }
     }
 
-    /// A channel to which nothing has happened.
+    /// Returns a channel to which nothing has happened.
     pub fn new(alloc: Global) -> Option<Row> {
         let settings = Settings::read(alloc, CHANNEL).ok()?;
         let recorder = Recorder::new(alloc, 0, settings).ok()?;
@@ -117,7 +117,7 @@ impl Row {
         })
     }
 
-    /// Takes a part, and then three requests that wait for the next. Memory for a fourth is found.
+    /// Publishes a part and makes three requests that wait for the next one. Reserves memory for the value of a fourth.
     fn prepare(&mut self, alloc: Global) -> Option<()> {
         let item = item(alloc, PART)?;
         self.publish(item);
@@ -128,20 +128,20 @@ impl Row {
         self.kept.reserve(1).ok()
     }
 
-    /// Takes readings until the record's memory is used up, but for the last lines of its open requests. Where nothing is refused, it takes
-    /// more than the record had memory for.
+    /// Takes readings of the clock until the record's memory is used up, but for that of the last lines of its open requests. If nothing is refused,
+    /// these are more readings than the record had memory for.
     pub fn fill<R: Wait>(&mut self, tools: &Tools<'_, R>) {
         tools.refuse_all();
         for _ in 0..READINGS {
-            if self.clock(0) == Answer::Memory {
+            if self.clock(0) == CallResult::Memory {
                 break;
             }
         }
         tools.end();
     }
 
-    /// Makes the call.
-    pub fn make(&mut self, made: Made) -> Answer {
+    /// Makes a call.
+    pub fn make(&mut self, made: Made) -> CallResult {
         match made {
             Made::Publish(item) => self.publish(item),
             Made::Ask(want) => self.ask(want),
@@ -150,58 +150,58 @@ impl Row {
         }
     }
 
-    fn publish(&mut self, item: Item) -> Answer {
+    fn publish(&mut self, item: Item) -> CallResult {
         match self.recorder.publish(item) {
-            Ok(count) => Answer::Accepted(*count.get()),
-            Err(PublishFault::Memory) => Answer::Memory,
-            Err(_) => Answer::Other,
+            Ok(count) => CallResult::Accepted(*count.get()),
+            Err(PublishFault::Memory) => CallResult::Memory,
+            Err(_) => CallResult::Other,
         }
     }
 
-    /// The value of a request that is held is kept, and so is a reply.
-    fn ask(&mut self, want: Want) -> Answer {
+    /// Makes a request, and keeps its value if it is held, or else its reply.
+    fn ask(&mut self, want: Want) -> CallResult {
         if self.kept.reserve(1).is_err() {
-            return Answer::Other;
+            return CallResult::Other;
         }
         match self.recorder.ask(want) {
             Ok(Asked::Held(parked)) => {
                 let ticket = parked.ticket();
                 self.kept.push_reserved(parked.store());
-                Answer::Held(ticket)
+                CallResult::Held(ticket)
             }
             Ok(Asked::Now(reply)) => self.got(reply),
-            Err(AskFault::Memory) => Answer::Memory,
-            Err(_) => Answer::Other,
+            Err(AskFault::Memory) => CallResult::Memory,
+            Err(_) => CallResult::Other,
         }
     }
 
-    fn clock(&mut self, ms: u64) -> Answer {
+    fn clock(&mut self, ms: u64) -> CallResult {
         match self.recorder.clock(ms) {
-            Ok(()) => Answer::Read,
-            Err(ClockFault::Memory) => Answer::Memory,
-            Err(_) => Answer::Other,
+            Ok(()) => CallResult::Read,
+            Err(ClockFault::Memory) => CallResult::Memory,
+            Err(_) => CallResult::Other,
         }
     }
 
-    fn rotate(&mut self) -> Answer {
+    fn rotate(&mut self) -> CallResult {
         match self.recorder.rotate() {
             Ok(chunk) => {
                 let entries = chunk.entries();
                 self.chunk = Some(chunk);
-                Answer::Entries(entries)
+                CallResult::Entries(entries)
             }
-            Err(_) => Answer::Memory,
+            Err(_) => CallResult::Memory,
         }
     }
 
-    /// Keeps a reply.
-    fn got(&mut self, reply: Stamped<Reply>) -> Answer {
+    /// Keeps `reply`, and returns it as a result.
+    fn got(&mut self, reply: Stamped<Reply>) -> CallResult {
         let answer = answer_of(reply.get());
         self.reply = Some(reply);
         answer
     }
 
-    /// The value of the request that was kept last.
+    /// Takes the value of the request that was kept last.
     pub fn take(&mut self) -> Option<Parked> {
         match self.kept.pop() {
             Some(one) => Some(one.into_parked()),

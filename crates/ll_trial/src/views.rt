@@ -1,4 +1,4 @@
-//! What can be read of a channel.
+//! All that can be read of a recorded channel.
 use crate::rows::{Made, NOW, Row, want};
 use crate::tools::Tools;
 use ll_room::{Collected, Stored};
@@ -6,9 +6,9 @@ use ll_verdict::Reply;
 use std::alloc::AllocError;
 use std::sync::Wait;
 
-/// What is read without memory.
+/// The numbers of a channel, which are read without memory.
 #[derive(Clone, Copy, PartialEq, Eq)]
-pub struct Numbers {
+pub struct Figures {
     items: u64,
     requests: u64,
     pub events: u64,
@@ -18,10 +18,10 @@ pub struct Numbers {
 }
 
 impl Row {
-    /// How many items, requests, events, open requests and replies there are, and whose reply is handed out next.
-    pub fn numbers(&self) -> Numbers {
+    /// Returns how many items, requests, events, open requests and ready replies there are, and whose reply is handed out next.
+    pub fn numbers(&self) -> Figures {
         let room = self.recorder.room();
-        Numbers {
+        Figures {
             items: room.count(),
             requests: room.asks(),
             events: room.events(),
@@ -31,15 +31,15 @@ impl Row {
         }
     }
 
-    /// All that a caller can come to know: the reply or the record that was handed out, the replies to the requests that were held, the
-    /// playlist, and the record of it all.
+    /// Returns all that a caller can come to know, as one text: the reply or the record that was handed out, the replies to the requests that were
+    /// held, the playlist, and the record of it all.
     pub fn view<R: Wait>(&mut self, tools: &Tools<'_, R>) -> Option<String> {
         let mut text = String::new(tools.alloc);
         self.push_all(tools, &mut text)?;
         Some(text)
     }
 
-    /// Appends it all.
+    /// Appends what [`Row::view`] returns.
     fn push_all<R: Wait>(&mut self, tools: &Tools<'_, R>, text: &mut String) -> Option<()> {
         self.push_given(text).ok()?;
         for _ in 0..self.kept.len() {
@@ -63,7 +63,7 @@ impl Row {
         Ok(())
     }
 
-    /// Appends the reply to the request that was kept last. One that still waits is let go.
+    /// Appends the reply to the request that was kept last, or why there is none. A request without a reply is dropped.
     fn push_collected<R: Wait>(
         &mut self,
         tools: &Tools<'_, R>,
@@ -85,12 +85,12 @@ impl Row {
         }
     }
 
-    /// Lets it go with its requests.
+    /// Drops the channel and its requests.
     pub fn end<R: Wait>(self, tools: &Tools<'_, R>) {
         tools.spend_all(self.into_kept());
     }
 
-    /// The values of its open requests.
+    /// Returns the values of the open requests.
     fn into_kept(self) -> Vec<Stored> {
         let Row {
             recorder: _,
@@ -102,7 +102,7 @@ impl Row {
     }
 }
 
-/// Appends a reply.
+/// Appends what `reply` says.
 fn push_reply(text: &mut String, reply: &Reply) -> Result<(), AllocError> {
     match reply {
         Reply::Text(page) => text.push_str(page.text()),

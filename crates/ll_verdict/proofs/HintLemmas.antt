@@ -88,7 +88,7 @@ hinted-missing c items a h =
     let p = hinted-is c its a.awaited h in
     ap₂ (λ x y. holds c its x || y) p.1 p.0 ∙ ap (λ x. x || false) (next-missing c its p.0)
 
--- where what is awaited is there, the text is given at once
+-- if what is awaited is there, the playlist is given at once
 unanswered : (x y z : Bool) (p : Paged) → (if x then Some (now.Text p) else if y then Some TooFar else if z then Some Busy else None) ≡ None → x ≡ false
 unanswered true y z p h = cc
 unanswered false y z p h = refl

@@ -12,7 +12,7 @@ use Rattle.ll_verdict.specs.Events.{Event, Publish, Ask, Collect, Close, Clock, 
 use Rattle.ll_directive.specs.Files.{is_playlist}
 use Rattle.ll_verdict.specs.Laws.{NewerMediaLaw, NewerTextLaw}
 use Rattle.ll_verdict.specs.Verdict.{Request, at_once, closes, comes_after, decided, given, held, held_by, hold_by, is_close, is_there, media_of, media_or_none, page_of, piece_of, reply, reply_at_step, reply_by, settles, waiting, wanted_of}
-use Rattle.ll_verdict.specs.declared.piece.Piece.{Piece}
+use Rattle.ll_verdict.specs.declared.piece.MediaReply.{MediaReply}
 use Rattle.ll_verdict.specs.declared.reply.Reply.{Reply}
 use Rattle.ll_verdict.specs.declared.reply.Settled.{Settled}
 use Rattle.ll_verdict.specs.declared.reply.Settled.TheVariants.{Text, Timeout}
@@ -23,7 +23,7 @@ use Rattle.ll_verdict.proofs.LawProofs.{first_state}
 use Rattle.ll_verdict.proofs.ListLemmas.{Each, each-append, each-at, each-map}
 use Rattle.ll_verdict.proofs.StepLemmas.{along, held-snoc}
 
--- what a request gets at these items that has waited until then
+-- what a request that has waited until then gets after these items
 abbrev given_after : Configuration → List Item → Wanted → Settled
 given_after c items a = given (length items) a (page_of c items a) (media_of c items a)
 
@@ -78,23 +78,23 @@ folded-longer c (e ∷ es) list =
     let q = folded-longer c es (taken c list e) in
     (p.0 ++ q.0, q.1 ∙ ap (λ xs. xs ++ q.0) p.1 ∙ append_assoc list p.0 q.0)
 
--- where a test fails of some items, and passes once others follow them, some do follow
+-- if a test fails of some items, and passes once others follow them, some do follow
 more_by : (test : List Item → Bool) (list more all : List Item) → all ≡ list ++ more → test list ≡ false → test all ≡ true → length list < length all
 more_by test list [] all e missing found =
     let same : all ≡ list = e ∙ append-nil list in
     cc
 more_by test list (i ∷ more) all e missing found = omega (arith, ap length e, length-append list (i ∷ more))
 
--- where what is awaited is there only at the second of two moments of a channel, items came in between
+-- if what is awaited is there only at the second of two moments of a channel, items came in between
 came_between : (c : Configuration) (before since : List Event) (a : Wanted) → is_there c (items c before) a ≡ false
     → is_there c (items c (before ++ since)) a ≡ true → length (items c before) < length (items c (before ++ since))
 came_between c before since a missing found =
     let q = folded-longer c since (items c before) in
     more_by (λ list. is_there c list a) (items c before) q.0 (items c (before ++ since)) (fold-append (taken c) [] before since ∙ q.1) missing found
 
--- ---- the text that it gets
+-- ---- the playlist that it gets
 
--- of two fronts of one list, the longer one begins with the other
+-- of two prefixes of one list, the longer one begins with the other
 front-has : (before front after rest : List Event) → before ++ after ≡ front ++ rest → length before ≤ length front
     → (since : List Event) × (front ≡ before ++ since)
 front-has [] front after rest h le = (front, refl)
@@ -178,12 +178,12 @@ newer_text c events place r page h e =
     }
 
 -- media is that of a file of media
-media_by : (b : Bool) (n : ℕ) (a : Wanted) (p : Paged) (piece : Piece) (o : Option (List ℕ)) → settled.Media piece ≡ (if b then Text p else media_or_none n a o)
+media_by : (b : Bool) (n : ℕ) (a : Wanted) (p : Paged) (piece : MediaReply) (o : Option (List ℕ)) → settled.Media piece ≡ (if b then Text p else media_or_none n a o)
     → (o ≡ Some piece.bytes) × (piece ≡ piece_of n a piece.bytes)
 media_by true n a p piece o h = cc
 media_by false n a p piece (Some bytes) h =
     let is : piece ≡ piece_of n a bytes = cc in
-    let same : bytes ≡ piece.bytes = ap (λ (x : Piece). x.bytes) (sym is) in
+    let same : bytes ≡ piece.bytes = ap (λ (x : MediaReply). x.bytes) (sym is) in
     (ap Some same, is ∙ ap (piece_of n a) same)
 media_by false n a p piece None h = cc
 
@@ -198,5 +198,5 @@ newer_media c events place r piece h e =
       place = g.place;
       shown = is.1;
       there = is.0;
-      newer = subst (λ n. length (items c r.before) < n) (ap (λ (p : Piece). p.number) (sym is.1)) g.newer;
+      newer = subst (λ n. length (items c r.before) < n) (ap (λ (p : MediaReply). p.number) (sym is.1)) g.newer;
     }

@@ -1,5 +1,5 @@
 -- The state after one more event. A request of the list stands against its entry of the state, event by event: what is still open, and
--- what reply it has by now. A request that an event itself brings is not decided by that event.
+-- what reply it has by now. A request that is itself the event is not decided by it.
 use Rattle.std.proofs.Common.{◌≡◌, ℕ, ◌+◌, ◌≤◌, ◌==◌, List, [], ◌∷◌, ◌++◌, Bool, true, false, not, ◌&&◌, ◌||◌, cond, if◌then◌else◌, nat_lt, nat_le, Option, Some, None, is_none, is_some, option_and_then, refl, ap, ap₂, ◌∙◌, sym, true≢false, filter, map, length, length-append, append-nil, arith}
 use Rattle.std.specs.Option.{option_or}
 use Rattle.std.proofs.lemmas.Bool.Decides.{nat_tests}
@@ -160,7 +160,7 @@ unborn_gone c r es = along (λ es. length es ≤ length r.before + 1 → gone c 
     ∙ ap (λ d. is_collect r.ticket e && is_some (option_and_then (reply_at_step c r) d)) (unborn c r es (omega arith))
     ∙ and_none (is_collect r.ticket e)) es
 
--- the entry of a request that the event brings
+-- the entry of a request that is the event
 born : (c : Configuration) (es : List Event) (w : WantValue) (o : Option Reply) (a : Option Wanted)
     → map (slot_of c (es ++ Ask w ∷ [])) (filter (open_now c (es ++ Ask w ∷ [])) (held_by o (asks es + 1) es a)) ≡ slot_by c o (state_of c es) a
 born c es w None None = refl
@@ -171,7 +171,7 @@ born c es w None (Some a) =
     ap (λ b. map (slot_of c (es ++ Ask w ∷ [])) (cond (not b) (r ∷ []) [])) (unborn_gone c r (es ++ Ask w ∷ []) short)
     ∙ ap (λ d. record (slot_of c es r) { settled = option_and_then (reply_at_step c r) d } ∷ []) (unborn c r (es ++ Ask w ∷ []) short)
 
--- the list after an event that brings no request
+-- the list after an event that is no request
 unchanged : (c : Configuration) (es : List Event) (e : Event) → held c (es ++ e ∷ []) ≡ held c es
     → (state_of c (es ++ e ∷ [])).slots ≡ map (change c es e) (filter (stays e) (state_of c es).slots) ++ []
 unchanged c es e h =

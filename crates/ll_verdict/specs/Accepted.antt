@@ -1,4 +1,4 @@
--- Which items a channel accepts.
+-- The items that a channel accepts.
 use Rattle.std.specs.Prelude.{List, Option, Some, length, nat_lt, if◌then◌else◌}
 use Rattle.ll_item.specs.Items.{rendition_of}
 use Rattle.ll_item.specs.Settings.{Configuration}
@@ -8,7 +8,7 @@ use Rattle.ll_rendition.specs.Refusal.{rendition_refusal}
 use Rattle.ll_rendition.specs.declared.fault.PublishFault.{PublishFault}
 use Rattle.ll_rendition.specs.declared.fault.PublishFault.TheVariants.{NoRendition}
 
--- the first rule that refuses an item after these items of its channel, or none
+-- the first rule that refuses an item after the items `before` of its channel, or none (rule 23)
 abbrev pub refusal : Configuration → List Item → Item → Option PublishFault
 refusal c before item =
     if nat_lt (rendition_of item) (length c.renditions)

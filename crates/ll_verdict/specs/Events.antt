@@ -1,4 +1,4 @@
--- The events of one channel, in the order in which they happened, and what they come to.
+-- The events of one channel, in the order in which they happened, and what follows from them.
 use Rattle.std.specs.Prelude.{ℕ, ◌+◌, List, [], ◌∷◌, ◌++◌, fold, is_none, max, if◌then◌else◌}
 use Rattle.ll_item.specs.Settings.{Configuration}
 use Rattle.ll_item.specs.declared.item.Item.{Item}
@@ -8,16 +8,16 @@ use Rattle.ll_verdict.specs.Accepted.{refusal}
 pub data Event : Type 0 where
   -- a publisher announced an item
   Publish : Item → Event
-  -- a player asked for a playlist; requests are numbered from 1
+  -- a player asked for a playlist or media; requests are numbered from 1
   Ask : WantValue → Event
   -- the reply to the request of this number was handed out
   Collect : ℕ → Event
-  -- the request of this number was given up
+  -- the request of this number was closed
   Close : ℕ → Event
-  -- the clock showed so many milliseconds
+  -- the clock showed this many milliseconds
   Clock : ℕ → Event
 
--- an item that is refused is no item of the channel
+-- an item that is refused is no item of the channel (rule 23)
 abbrev pub taken : Configuration → List Item → Event → List Item
 taken c items (Publish item) = if is_none (refusal c items item) then items ++ item ∷ [] else items
 taken c items (Ask want) = items
@@ -36,7 +36,7 @@ later time (Collect ticket) = time
 later time (Close ticket) = time
 later time (Clock ms) = max time ms
 
--- the channel's time in milliseconds: the largest reading, 0 before the first one
+-- the channel's time in milliseconds: the largest reading, 0 before the first one (rule 28)
 abbrev pub time : List Event → ℕ
 time events = fold later 0 events
 
@@ -56,7 +56,7 @@ pub record Step : Type 0 where
   pub before : List Event
   pub event : Event
 
--- all events up to and with it
+-- all events up to and with that of a step
 abbrev pub until : Step → List Event
 until s = s.before ++ s.event ∷ []
 

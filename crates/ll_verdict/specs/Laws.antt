@@ -1,4 +1,4 @@
--- What every list of events says of its requests.
+-- Laws of every list of events and its requests.
 use Rattle.std.specs.Prelude.{◌≡◌, ℕ, ◌+◌, ◌<◌, ◌||◌, List, ◌++◌, true, None, Some, filter, length, not, slice_get}
 use Rattle.ll_item.specs.Settings.{Configuration}
 use Rattle.ll_page.specs.Page.{Paged}
@@ -6,26 +6,26 @@ use Rattle.ll_verdict.specs.Events.{Event, Step, until, items}
 use Rattle.ll_verdict.specs.State.{state_of, is_waiting}
 use Rattle.ll_verdict.specs.Verdict.{Request, closes, decided, held, is_there, media_of, page_of, piece_of, reply, settles}
 use Rattle.ll_verdict.specs.declared.reply.Settled.TheVariants.{Media, Text}
-use Rattle.ll_verdict.specs.declared.piece.Piece.{Piece}
+use Rattle.ll_verdict.specs.declared.piece.MediaReply.{MediaReply}
 
 -- a request is decided once: no later event changes what decided it
 abbrev pub OneVerdictLaw : Type 0
 OneVerdictLaw = (c : Configuration) (events more : List Event) (r : Request) (s : Step)
     → decided c events r ≡ Some s → decided c (events ++ more) r ≡ Some s
 
--- it is decided by this event, and no event before decides it
+-- `s` decides the request, and no event before it does
 pub record IsFirst (c : Configuration) (events : List Event) (r : Request) (s : Step) : Type 0 where
   pub rest : List Event
   pub place : events ≡ until s ++ rest
   pub decides : (settles c r s || closes r s) ≡ true
   pub first : decided c s.before r ≡ None
 
--- a request is decided by the first event that settles it or gives it up
+-- a request is decided by the first event that settles or closes it
 abbrev pub FirstStateLaw : Type 0
 FirstStateLaw = (c : Configuration) (events : List Event) (r : Request) (s : Step) → decided c events r ≡ Some s → IsFirst c events r s
 
--- It is the page of a moment since the request: by then what the request awaits is there or its rendition has ended, and the channel has
--- accepted more items than when it was asked.
+-- The page is that of a moment since the request: by then what the request awaits is there or its rendition has ended, and the channel has accepted
+-- more items than when the request was made.
 pub record IsNewer (c : Configuration) (events : List Event) (r : Request) (page : Paged) : Type 0 where
   -- the events from the request up to that moment, and those after it
   pub since : List Event
@@ -35,13 +35,13 @@ pub record IsNewer (c : Configuration) (events : List Event) (r : Request) (page
   pub there : is_there c (items c (r.before ++ since)) r.wanted ≡ true
   pub newer : length (items c r.before) < page.seen.count
 
--- a text that a request gets after it had to wait is newer than its asking
+-- a playlist that a held request gets is newer than the request
 abbrev pub NewerTextLaw : Type 0
 NewerTextLaw = (c : Configuration) (events : List Event) (place : ℕ) (r : Request) (page : Paged)
     → slice_get (held c events) place ≡ Some r → reply c events r ≡ Some (Text page) → IsNewer c events r page
 
--- It is the media of a moment since the request: by then it is there, and the channel has accepted more items than when it was asked for.
-pub record IsNewerMedia (c : Configuration) (events : List Event) (r : Request) (piece : Piece) : Type 0 where
+-- The media is that of a moment since the request: by then it is there, and the channel has accepted more items than when the request was made.
+pub record IsNewerMedia (c : Configuration) (events : List Event) (r : Request) (piece : MediaReply) : Type 0 where
   -- the events from the request up to that moment, and those after it
   pub since : List Event
   pub rest : List Event
@@ -50,7 +50,7 @@ pub record IsNewerMedia (c : Configuration) (events : List Event) (r : Request) 
   pub there : media_of c (items c (r.before ++ since)) r.wanted ≡ Some piece.bytes
   pub newer : length (items c r.before) < piece.number
 
--- media that a request gets after it had to wait is newer than its asking
+-- media that a held request gets is newer than the request
 abbrev pub NewerMediaLaw : Type 0
-NewerMediaLaw = (c : Configuration) (events : List Event) (place : ℕ) (r : Request) (piece : Piece)
+NewerMediaLaw = (c : Configuration) (events : List Event) (place : ℕ) (r : Request) (piece : MediaReply)
     → slice_get (held c events) place ≡ Some r → reply c events r ≡ Some (Media piece) → IsNewerMedia c events r piece

@@ -1,4 +1,4 @@
--- Statuses (RFC 9110, section 15), numbers and names of what a channel answers.
+-- Statuses (RFC 9110, section 15), numbers and names of the answers of a channel.
 use Rattle.std.specs.Prelude.{ℕ, List, codes}
 use Rattle.ll_verdict.specs.declared.fault.AskFault.{AskFault}
 use Rattle.ll_verdict.specs.declared.fault.AskFault.TheVariants.{RecordFull, Memory}
@@ -7,7 +7,7 @@ use Rattle.ll_verdict.specs.declared.fault.ClockFault.TheVariants as clock
 use Rattle.ll_verdict.specs.declared.reply.Reply.{Reply}
 use Rattle.ll_verdict.specs.declared.reply.Reply.TheVariants.{Text, Media, NotFound, TooFar, Busy, Timeout}
 
--- ---- requests: where there is no playlist and no media, players read a name in their place
+-- ---- requests: a player that gets no playlist and no media reads a name in their place
 
 abbrev pub ask_fault_name : AskFault → List ℕ
 ask_fault_name RecordFull = codes "RecordFull"

@@ -1,4 +1,4 @@
--- What a reply comes to, without the playlist or the bytes themselves.
+-- A reply without the playlist or the bytes themselves.
 use Rattle.std.specs.Prelude.{length}
 use Rattle.ll_page.specs.Page.{update_in}
 use Rattle.ll_verdict.specs.declared.reply.Outcome.{Outcome}
@@ -6,8 +6,8 @@ use Rattle.ll_verdict.specs.declared.reply.Outcome.TheVariants as outcome
 use Rattle.ll_verdict.specs.declared.reply.Reply.{Reply}
 use Rattle.ll_verdict.specs.declared.reply.Reply.TheVariants.{Text, Media, NotFound, TooFar, Busy, Timeout}
 
--- A playlist is known by how many items the channel had accepted, and by which delta update it is, if any; media by how many items there were and
--- how many bytes it has.
+-- A playlist is known by how many items the channel had accepted, and by which delta update it is, if any; media by how many items the channel had
+-- accepted, and by how many bytes it has.
 abbrev pub outcome_of : Reply → Outcome
 outcome_of (Text page) = outcome.Text page.seen.count (update_in page)
 outcome_of (Media piece) = outcome.Media piece.number (length piece.bytes)

@@ -1,4 +1,4 @@
--- Where a rendition stands: what a publisher has to know before it goes on.
+-- Where a rendition stands, as a publisher has to know it before it goes on.
 use Rattle.std.specs.Prelude.{ℕ, ◌+◌, ◌/◌, List, length}
 use Rattle.ll_item.specs.Settings.{Configuration}
 use Rattle.ll_item.specs.Told.{end_time}
@@ -8,12 +8,12 @@ use Rattle.ll_verdict.specs.declared.standing.Standing.{Standing}
 use Rattle.ll_window.specs.Compact.{clock, compact}
 use Rattle.ll_window.specs.Segments.{ended, open_segment, own, segments}
 
--- the least number of whole milliseconds that is no shorter
+-- the smallest number of whole milliseconds that is no less than `micros` microseconds
 abbrev pub millis_up : ℕ → ℕ
 millis_up micros = (micros + 999) / 1000
 
--- where a rendition stands after these items of its channel: how many these are, the place of the next part, which the hint names, how long
--- all parts of the rendition last, and when the next part begins, which is the least time that a break may set
+-- where a rendition stands after `items` of its channel: how many these are, the place of the next part, which the hint names, how long all parts of
+-- the rendition last, and when the next part begins, which is the earliest time that a break can set
 abbrev pub standing : Configuration → List Item → ℕ → Standing
 standing c items rendition =
     let its = own rendition items in
@@ -26,7 +26,7 @@ standing c items rendition =
       ended = ended its;
     }
 
--- the same, told by what is kept
+-- the same, from what is kept
 abbrev pub standing_of : ℕ → Rendition → Standing
 standing_of count k = record {
   count = count;

@@ -1,4 +1,4 @@
--- What of all events of a channel is still needed, and how one more event changes it.
+-- What is still needed of all events of a channel, and how one more event changes it.
 use Rattle.std.specs.Prelude.{◌≡◌, ℕ, ◌+◌, ◌*◌, ◌==◌, ◌&&◌, ◌||◌, List, [], ◌∷◌, ◌++◌, Bool, true, false, not, Option, Some, None, is_some, is_none, nat_le, length, filter, map, if◌then◌else◌}
 use Rattle.std.specs.List.{list_any}
 use Rattle.ll_item.specs.Settings.{Configuration}
@@ -17,7 +17,7 @@ pub record State : Type 0 where
   pub time : ℕ
   -- how many requests there were
   pub asks : ℕ
-  -- the open requests, in order of asking: each waits, or its reply does
+  -- the open requests, in order of asking: each waits, or has its reply
   pub slots : List Slot
   -- how many events there were
   pub events : ℕ
@@ -35,19 +35,19 @@ is_collect ticket (Collect other) = ticket == other
 is_collect ticket (Close other) = false
 is_collect ticket (Clock ms) = false
 
--- with this event it is given up, or its reply is handed out
+-- with this event the request is closed, or its reply is handed out
 abbrev pub leaves : Configuration → Request → Step → Bool
 leaves c r s = closes r s || (is_collect r.ticket s.event && is_some (reply c s.before r))
 
--- whether it is no longer open
+-- whether the request is no longer open
 abbrev pub gone : Configuration → List Event → Request → Bool
 gone c events r = list_any (leaves c r) (steps events)
 
--- the requests that wait or whose replies wait, in order of asking
+-- the requests that wait or whose reply wasn't handed out, in order of asking
 abbrev pub open_requests : Configuration → List Event → List Request
 open_requests c events = filter (λ r. not (gone c events r)) (held c events)
 
--- the state that stands for these events
+-- the state that stands for `events`
 abbrev pub state_of : Configuration → List Event → State
 state_of c events = record {
   items = items c events;
@@ -59,13 +59,13 @@ state_of c events = record {
 
 -- the plain step
 
--- an open request after these items and at this time
+-- an open request after `items` and at `time`
 abbrev pub settle : Configuration → List Item → ℕ → Slot → Slot
 settle c items time s = record s {
   settled = if is_none s.settled && (is_there c items s.entry.wanted || nat_le s.entry.deadline time) then Some (reply_with c items s.entry.wanted) else s.settled;
 }
 
--- whether a request stays open with this event
+-- whether an open request stays open with the event
 abbrev pub stays : Event → Slot → Bool
 stays (Publish item) s = true
 stays (Ask want) s = true
@@ -76,11 +76,11 @@ stays (Clock ms) s = true
 abbrev pub is_waiting : Slot → Bool
 is_waiting s = is_none s.settled
 
--- how many of these wait
+-- how many of `slots` wait
 abbrev pub waiting_in : List Slot → ℕ
 waiting_in slots = length (filter is_waiting slots)
 
--- the reply to a request at once, or none where it has to wait
+-- the reply to a request at once, or none if it has to wait
 abbrev pub answer_of : Configuration → State → WantValue → Option Reply
 answer_of c s want = reply_by c (waiting_in s.slots) s.items (wanted_of c want)
 
@@ -93,7 +93,7 @@ slot_by c None s (Some a) =
 slot_by c None s None = []
 slot_by c (Some answer) s wanted = []
 
--- a new request, where it has to wait
+-- the new request, if it has to wait
 abbrev pub new_slots : Configuration → State → Event → List Slot
 new_slots c s (Publish item) = []
 new_slots c s (Ask want) = slot_by c (answer_of c s want) s (wanted_of c want)
@@ -111,6 +111,6 @@ next c s e = record {
   events = s.events + 1;
 }
 
--- the plain step is the state of one more event, whatever happened before
+-- the plain step gives the state with one more event, whatever happened before
 abbrev pub StateLaw : Type 0
 StateLaw = (c : Configuration) (events : List Event) (e : Event) → state_of c (events ++ e ∷ []) ≡ next c (state_of c events) e

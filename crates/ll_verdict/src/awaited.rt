@@ -1,4 +1,4 @@
-//! What a request awaits of a rendition (Blocking Playlist Reload, section 6.2.5.2).
+//! What a request awaits of a rendition (blocking playlist reload, section 6.2.5.2).
 ghost use Rattle.std.specs.Prelude.{◌≡◌, ◌||◌, List};
 ghost use Rattle.ll_item.specs.declared.item.Item.{Item};
 ghost use Rattle.ll_verdict.specs.Verdict as verdict;
@@ -8,7 +8,7 @@ ghost use Rattle.ll_window.specs.Segments.{ended};
 use ll_directive::Awaited;
 use ll_window::Window;
 
-/// Whether what is awaited of a rendition is there, or it has ended.
+/// Returns whether what is awaited of a rendition is there, or the rendition has ended. `window` is that of the rendition.
 pub fn is_there(window: &Window, awaited: Awaited) -> bool
     ensures { (items : List Item) → window.now ≡ compact window.now.settings items
         → result ≡ (verdict.holds window.now.settings items awaited || ended items) }
@@ -16,7 +16,7 @@ pub fn is_there(window: &Window, awaited: Awaited) -> bool
     holds(window, awaited) || window.ended()
 }
 
-/// Whether what is awaited of a rendition is there.
+/// Returns whether what is awaited of a rendition is there.
 fn holds(window: &Window, awaited: Awaited) -> bool
     ensures { (items : List Item) → window.now ≡ compact window.now.settings items
         → result ≡ verdict.holds window.now.settings items awaited }
@@ -28,7 +28,7 @@ fn holds(window: &Window, awaited: Awaited) -> bool
     }
 }
 
-/// Whether what is awaited of a rendition is too far ahead to be waited for.
+/// Returns whether what is awaited of a rendition is too far ahead to be waited for.
 pub fn is_far(window: &Window, awaited: Awaited) -> bool
     ensures { (items : List Item) → window.now ≡ compact window.now.settings items
         → result ≡ verdict.far window.now.settings items awaited }
@@ -40,7 +40,7 @@ pub fn is_far(window: &Window, awaited: Awaited) -> bool
     }
 }
 
-/// Whether what is awaited of a rendition is the part that its Preload Hint names: the next one, where the rendition has not ended.
+/// Returns whether what is awaited of a rendition is the part that its Preload Hint names: the next one, while the rendition hasn't ended.
 pub fn is_hinted(window: &Window, awaited: Awaited) -> bool
     ensures { (items : List Item) → window.now ≡ compact window.now.settings items
         → result ≡ verdict.is_hinted window.now.settings items awaited }

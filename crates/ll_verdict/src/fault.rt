@@ -1,13 +1,14 @@
+//! Why a channel does not take a request or a reading of the clock.
 use std::alloc::AllocError;
 use thiserror::Error;
 
-/// Why a request is no event of its channel, whatever it asks for: the first of these that applies.
+/// The reason that a request is no event of its channel, whatever it asks for: the first of these that applies.
 #[derive(Clone, Copy, Debug, PartialEq, Eq, Error)]
 pub enum AskFault {
-    /// The channel, or its record, has taken all events that it takes.
+    /// The channel or its record takes no more events.
     #[error("RecordFull")]
     RecordFull,
-    /// No memory was found.
+    /// Out of memory.
     #[error("Memory")]
     Memory,
 }
@@ -16,7 +17,7 @@ impl AskFault {
     ghost use Rattle.std.specs.Prelude.{◌≡◌};
     ghost use Rattle.ll_verdict.specs.Names.{ask_fault_name};
 
-    /// The name that players read.
+    /// Returns the name that players read.
     pub fn name(self) -> &'static str
         ensures { result.now ≡ ask_fault_name self }
     {
@@ -27,16 +28,19 @@ impl AskFault {
     }
 }
 
-/// Why a reading of the clock is no event of its channel: the first of these that applies.
+/// The largest reading of a clock, in milliseconds.
+pub const LAST_TIME: u64 = 1 << 60;
+
+/// The reason that a reading of the clock is no event of its channel: the first of these that applies.
 #[derive(Clone, Copy, Debug, PartialEq, Eq, Error)]
 pub enum ClockFault {
     /// The reading is above 2^60 milliseconds.
     #[error("ClockRange")]
     ClockRange,
-    /// The channel, or its record, has taken all events that it takes.
+    /// The channel or its record takes no more events.
     #[error("RecordFull")]
     RecordFull,
-    /// No memory was found: a record needs some for a reading, a room needs none.
+    /// Out of memory: a record needs some for a reading, a room none.
     #[error("Memory")]
     Memory,
 }
@@ -45,7 +49,7 @@ impl ClockFault {
     ghost use Rattle.std.specs.Prelude.{◌≡◌};
     ghost use Rattle.ll_verdict.specs.Names.{clock_fault_name, clock_fault_code};
 
-    /// The number that is read in a script's answer.
+    /// Returns the number that stands for it in a script's answer.
     pub fn code(self) -> u64
         ensures { result ≡ clock_fault_code self }
     {
@@ -56,7 +60,7 @@ impl ClockFault {
         }
     }
 
-    /// The name that is read there.
+    /// Returns the name that stands for it in a script's answer.
     pub fn name(self) -> &'static str
         ensures { result.now ≡ clock_fault_name self }
     {

@@ -1,9 +1,8 @@
-//! What every list of events says of its requests. Each law is proved once, as the contract of an empty function; none of these does
-//! anything.
+//! Laws of every list of events and its requests. Each is proved once, as the contract of an empty function that does nothing.
 ghost use Rattle.ll_verdict.specs.Laws.{FirstStateLaw, NewerMediaLaw, NewerTextLaw, OneVerdictLaw};
 ghost use Rattle.ll_verdict.specs.State.{StateLaw};
 
-/// The plain step is the state of one more event, for every list of events and every event.
+/// The plain step from the state of a list of events gives the state with one more event, for every list and every event.
 pub fn state_law()
     ensures { StateLaw }
 {}
@@ -13,20 +12,19 @@ pub fn one_verdict_law()
     ensures { OneVerdictLaw }
 {}
 
-/// A held request is answered from the first state that holds its part or has ended, or at the first reading that its time has come,
-/// unless it is given up before.
+/// A held request is decided by the first event after which what it awaits is there or its rendition has ended, or that reaches its deadline, or that
+/// closes it.
 pub fn first_state_law()
     ensures { FirstStateLaw }
 {}
 
-/// A text that a held request gets is newer than its asking: the channel has accepted more items by then, and they hold what the request
-/// awaited, or its rendition has ended.
+/// A playlist that a held request gets is newer than the request: the channel has accepted more items by then, and with them what the request awaited
+/// is there, or its rendition has ended.
 pub fn newer_text_law()
     ensures { NewerTextLaw }
 {}
 
-/// Media that a held request gets is newer than its asking: the channel has accepted more items by then, and they bring the part that the request
-/// awaited.
+/// Media that a held request gets is newer than the request: the channel has accepted more items by then, and with them the awaited part is there.
 pub fn newer_media_law()
     ensures { NewerMediaLaw }
 {}

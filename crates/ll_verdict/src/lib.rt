@@ -1,5 +1,5 @@
-//! What each request of a channel gets, as a definition over the list of all events of the channel, and the plain step that says
-//! the same one event at a time. Sections are those of draft-pantos-hls-rfc8216bis.
+//! What each request of a channel gets: a definition over the list of all events of the channel, and a plain step that says the same one event at a
+//! time. Sections are those of draft-pantos-hls-rfc8216bis.
 #![tactic(auto)]
 
 mod awaited;
@@ -13,10 +13,10 @@ mod wanted;
 
 pub use awaited::{is_far, is_hinted, is_there};
 pub use entry::{Entry, Slot};
-pub use fault::{AskFault, ClockFault};
+pub use fault::{AskFault, ClockFault, LAST_TIME};
 pub use laws::{first_state_law, newer_media_law, newer_text_law, one_verdict_law, state_law};
 pub use ll_rendition::PublishFault;
-pub use piece::Piece;
+pub use piece::MediaReply;
 pub use reply::{Outcome, Reply, Settled};
 pub use standing::Standing;
 pub use wanted::Wanted;

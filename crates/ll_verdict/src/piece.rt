@@ -1,15 +1,16 @@
+//! Media that a player gets.
 use ll_item::What;
 use ll_store::Blocks;
 
-/// Media that a player gets: a segment, a part or a Media Initialization Section. Its bytes are shared with all who hold them.
+/// A segment, a part or a Media Initialization Section, as a player gets it. Its bytes are shared with all who hold them.
 #[derive(Drop)]
-pub struct Piece {
+pub struct MediaReply {
     /// Its bytes.
     pub bytes: Blocks,
-    /// How many items the channel had accepted.
+    /// The number of items that the channel had accepted.
     pub number: u64,
     /// The index of its rendition.
     pub rendition: usize,
-    /// What of the rendition it is.
+    /// The file of the rendition that it is.
     pub what: What,
 }

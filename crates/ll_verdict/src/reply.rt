@@ -1,21 +1,22 @@
+//! The replies of a channel to requests.
 ghost use Rattle.std.specs.Prelude.{◌≡◌};
 ghost use Rattle.ll_verdict.specs.Names.{reply_name, reply_status};
 ghost use Rattle.ll_verdict.specs.Outcome.{outcome_of};
 
-use crate::piece::Piece;
+use crate::piece::MediaReply;
 use ll_item::SkipKind;
 use ll_page::Page;
 
-/// What a request that had to wait gets, unless it is given up before.
+/// What a request that had to wait gets, unless it is closed before.
 #[derive(Drop)]
 pub enum Settled {
-    /// What it awaited is there, or its rendition has ended: the playlist of that very state.
+    /// The playlist or delta update of the state in which what it awaited is there, or its rendition has ended.
     Text(Page),
-    /// The part that it awaited is there.
-    Media(Piece),
-    /// The rendition has ended, and the part that it awaited never comes.
+    /// The part that it awaited.
+    Media(MediaReply),
+    /// The part that it awaited can't come any more: another part came, or the rendition has ended.
     NotFound,
-    /// Three target durations have passed.
+    /// Three target durations passed.
     Timeout,
 }
 
@@ -25,12 +26,12 @@ pub enum Reply {
     /// A playlist or delta update.
     Text(Page),
     /// A segment, a part or a Media Initialization Section.
-    Media(Piece),
-    /// The channel has no rendition of that name, or the rendition has no such media, and it isn't the part that comes next.
+    Media(MediaReply),
+    /// The channel has no rendition of that name, or the requested media isn't there, and isn't the next part or can't come any more.
     NotFound,
     /// What it awaits is too far ahead (section 6.2.5.2).
     TooFar,
-    /// As many requests of the channel wait as may wait.
+    /// 65,536 requests of the channel wait.
     Busy,
     /// What it awaits wasn't there within three target durations.
     Timeout,
@@ -52,25 +53,25 @@ impl From<Settled> for Reply {
     }
 }
 
-/// What a reply comes to, without the playlist or the bytes themselves.
+/// A reply without the playlist or the bytes themselves.
 #[derive(Clone, Copy, PartialEq, Eq)]
 pub enum Outcome {
-    /// A playlist after so many items of the channel: a delta update of this kind, or a full one for none.
+    /// A playlist: how many items the channel had accepted, and which delta update it is, or `None` for a full playlist.
     Text(u64, Option<SkipKind>),
-    /// Media after so many items of the channel, and how many bytes it has.
+    /// Media: how many items the channel had accepted, and how many bytes it has.
     Media(u64, u64),
     /// There is no such rendition or no such media.
     NotFound,
     /// What it awaits is too far ahead.
     TooFar,
-    /// As many requests of the channel wait as may wait.
+    /// 65,536 requests of the channel wait.
     Busy,
     /// What it awaits wasn't there within three target durations.
     Timeout,
 }
 
 impl Reply {
-    /// What the reply comes to.
+    /// Returns the reply without its playlist or bytes.
     pub fn outcome(&self) -> Outcome
         ensures { result ≡ outcome_of self.now }
     {
@@ -84,7 +85,7 @@ impl Reply {
         }
     }
 
-    /// The status of its response (RFC 9110, section 15).
+    /// Returns the status of its response (RFC 9110, section 15).
     pub fn status(&self) -> u16
         ensures { result ≡ reply_status self.now }
     {
@@ -96,7 +97,7 @@ impl Reply {
         }
     }
 
-    /// Its name, which players read where there is no playlist and no media.
+    /// Returns its name, which a player reads if it gets no playlist and no media.
     pub fn name(&self) -> &'static str
         ensures { result.now ≡ reply_name self.now }
     {

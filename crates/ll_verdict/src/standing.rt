@@ -1,3 +1,4 @@
+//! Where a rendition stands, as a publisher has to know it.
 ghost use Rattle.std.specs.Prelude.{◌≡◌};
 ghost use Rattle.ll_verdict.specs.Standing.{standing_of};
 
@@ -6,22 +7,22 @@ use ll_rendition::Rendition;
 /// Where a rendition stands, after some items of its channel.
 #[derive(Clone, Copy, Debug, PartialEq, Eq)]
 pub struct Standing {
-    /// How many items the channel has accepted.
+    /// The number of items that the channel has accepted.
     pub count: u64,
     /// The Media Sequence Number of the next part.
     pub number: u64,
-    /// The index of the next part in its segment.
+    /// The Part Index of the next part.
     pub index: u64,
-    /// How long all parts of the rendition last, in microseconds.
+    /// The total duration of all parts of the rendition, in microseconds.
     pub end_time: u64,
-    /// When the next part begins: milliseconds since 1970-01-01T00:00:00Z, rounded up. It is the least time that a break may set.
+    /// The time at which the next part begins: milliseconds since 1970-01-01T00:00:00Z, rounded up. It is the earliest time that a break can set.
     pub time: u64,
     /// Whether the rendition has ended.
     pub ended: bool,
 }
 
 impl Standing {
-    /// Returns where a rendition stands of which this is `kept`, when its channel has accepted `count` items.
+    /// Returns where a rendition stands, from what is `kept` of it, when its channel has accepted `count` items.
     pub fn of(count: u64, kept: &Rendition) -> Standing
         ensures { result ≡ standing_of count kept.now }
     {

@@ -1,7 +1,8 @@
+//! What a request asks for, once its rendition is found.
 use ll_directive::Awaited;
 use ll_item::{SkipKind, What};
 
-/// What a request asks of one rendition of a channel.
+/// What a request asks for, of one rendition of a channel.
 #[derive(Clone, Copy, PartialEq, Eq)]
 pub struct Wanted {
     /// The index of the rendition.
@@ -10,6 +11,6 @@ pub struct Wanted {
     pub what: What,
     /// What it waits for.
     pub awaited: Awaited,
-    /// Which delta update it is for; none for the full playlist, and for media.
+    /// The delta update that it is for; `None` for the full playlist and for media.
     pub form: Option<SkipKind>,
 }

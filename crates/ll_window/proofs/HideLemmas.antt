@@ -1,4 +1,4 @@
--- The far segments are the first ones, and what they list is nothing.
+-- The far segments are the first ones, and have no parts.
 use Rattle.std.proofs.Common.{◌≡◌, ℕ, zero, suc, ◌+◌, ◌≤◌, ◌<◌, List, [], ◌∷◌, ◌++◌, true, false, Some, length, length-append, length-set, nat_lt, drop, slice_get, slice_set, refl, ap, ap₂, sym, ◌∙◌, true≢false, arith}
 use Rattle.std.proofs.lemmas.Bool.Decides.{nat_tests}
 use Rattle.ll_window.specs.declared.finished.Finished.{Finished}
@@ -14,18 +14,18 @@ is_far near x le = grind (arith, nat_tests)
 is_near : (near x : ℕ) → x < near → nat_lt x near ≡ true
 is_near near x lt = grind (arith, nat_tests)
 
--- where the first lists its parts, all do
+-- if the first lists its parts, all do
 all_near : (near tail : ℕ) (r : Row) (rs : List Row) → lasting rs + tail < near → listed near tail (r ∷ rs) ≡ r ∷ rs
 all_near near tail r [] lt = ap (λ b. shown_by b r ∷ []) (is_near near (lasting [] + tail) lt)
 all_near near tail r (q ∷ rs) lt =
     let e = lasting-cons q rs in
     ap₂ (λ b more. shown_by b r ∷ more) (is_near near (lasting (q ∷ rs) + tail) lt) (all_near near tail q rs (omega (arith, e, lt)))
 
--- a segment after which others last so long has given up its parts
+-- a segment after which others last that long has dropped its parts
 far_first : (near tail : ℕ) (r : Row) (rs : List Row) → near ≤ lasting rs + tail → listed near tail (r ∷ rs) ≡ shown_by false r ∷ listed near tail rs
 far_first near tail r rs le = ap (λ b. shown_by b r ∷ listed near tail rs) (is_far near (lasting rs + tail) le)
 
--- those that have given up their parts are just those that list none, where the first of the others lists its own
+-- if the first of the others lists its parts, those that have dropped their parts are exactly those that list none
 pub as_listed : (near tail n : ℕ) (rs : List Row) → hidden n rs ≡ rs → (0 < n → near ≤ lasting (drop n rs) + tail)
     → ((r : Row) → slice_get rs n ≡ Some r → lasting (drop (suc n) rs) + tail < near) → rs ≡ listed near tail rs
 as_listed near tail n [] given far next = refl
@@ -50,7 +50,7 @@ within (q ∷ rs) (suc n) r e = let lt = within rs n r e in omega (arith, lt)
 pub none_there : (rs : List Row) (len n : ℕ) (r : Row) → len ≡ length rs → (n < len → false ≡ true) → slice_get rs n ≡ Some r → ⊥
 none_there rs len n r many past e = true≢false (sym (past (let lt = within rs n r e in omega (arith, lt, many))))
 
--- ---- one more gives up its parts
+-- ---- one more drops its parts
 
 lasting-hidden : (n : ℕ) (rs : List Row) (r : Row) → slice_get rs n ≡ Some r → lasting (slice_set rs n (shown_by false r)) ≡ lasting rs
 lasting-hidden n [] r e = refl

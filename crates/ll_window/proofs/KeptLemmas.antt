@@ -79,7 +79,7 @@ finished_again k =
 abbrev pub ending : Progress → Progress
 ending p = record p { ended = true }
 
--- the end, where a segment is open
+-- the end, if a segment is open
 open_by : (c : Configuration) (f : Finished) (ps : List Part) (p : Progress) → (ps ≡ [] → ⊥)
     → after_segment (kept c f ps (ending p)) ≡ with_end (kept c f ps p)
 open_by c f [] p some = absurd (some refl)
@@ -273,7 +273,7 @@ pub told_ended : (c : Configuration) (w : ℕ) (f g : Finished) (ps os : List Pa
 told_ended c w f g ps os p r s k is wide some goes none same items left =
     ap relisted (ap (λ x. kept c g os x) goes ∙ closed_with c w f g ps os (ending p) s wide none same items left) ∙ open_by c f ps p some ∙ ap with_end is
 
--- the parts that no playlist lists any more are given up
+-- the parts that playlists no longer list are dropped
 
 pub short : (c : Configuration) (f : Finished) (ps : List Part) (p : Progress) → IsKept c f ps p → f.near_lasting + p.open_duration < 2 ^ 64
 short c f ps p k = let n = near-within f k.hidden in omega (arith, n, k.within, k.forward, k.times)

@@ -15,7 +15,7 @@ less limit x le = grind (arith, nat_tests)
 no_more : (n : ℕ) → 0 + n ≡ n
 no_more n = omega arith
 
--- where the first isn't skipped, none is
+-- if the first isn't skipped, none is
 pub skipped-none : (limit tail : ℕ) (r : Row) (rs : List Row) → lasting rs + tail ≤ limit → skipped_in limit tail (r ∷ rs) ≡ 0
 skipped-none limit tail r [] le = ap (λ b. one_if b + 0) (not_less limit (lasting [] + tail) le)
 skipped-none limit tail r (s ∷ rs) le =
@@ -23,7 +23,7 @@ skipped-none limit tail r (s ∷ rs) le =
     ∙ no_more (skipped_in limit tail (s ∷ rs))
     ∙ skipped-none limit tail s rs (let a = lasting-cons s rs in omega arith)
 
--- which are skipped does not turn on the parts that they list
+-- which are skipped does not depend on the parts that they list
 pub skipped-listed : (limit tail near t : ℕ) (rs : List Row) → skipped_in limit tail (listed near t rs) ≡ skipped_in limit tail rs
 skipped-listed limit tail near t [] = refl
 skipped-listed limit tail near t (r ∷ rs) =
@@ -38,7 +38,7 @@ one-back rs n r lt e = drop-cons rs n r lt ∙ ap (λ x. x ∷ drop (suc n) rs) 
 pub lasting-all : (rs : List Row) (n : ℕ) → lasting (drop n rs) ≤ lasting rs
 lasting-all rs n = let e = sum_by-take-drop (λ (r : Row). r.segment.duration) rs n in omega (arith, e)
 
--- how long they last, and that none of them is skipped where those after the first last no longer than the limit
+-- how long they last, and that none of them is skipped if those after the first last no longer than the limit
 pub goes-back : (limit tail after count d : ℕ) (rs : List Row) (r : Row) → 0 < count → count ≤ length rs → r ≡ get_or rs (count - 1) r
     → after ≡ lasting (drop count rs) + tail → d ≡ r.segment.duration → after ≤ limit
     → (after + d ≡ lasting (drop (count - 1) rs) + tail) × (skipped_in limit tail (drop (count - 1) rs) ≡ 0)
@@ -53,7 +53,7 @@ goes-back limit tail after count d rs r some within e is same short =
       ap (skipped_in limit tail) back ∙ skipped-none limit tail r (drop (suc n) rs) (omega (arith, c, is, short)),
     )
 
--- all before them are skipped, where they last longer than the limit
+-- all before them are skipped if they last longer than the limit
 pub skipped-before : (limit tail n : ℕ) (rs : List Row) → n ≤ length rs → limit < lasting (drop n rs) + tail → skipped_in limit tail (drop n rs) ≡ 0 → n ≡ skipped_in limit tail rs
 skipped-before limit tail zero rs le long none = sym none
 skipped-before limit tail (suc n) [] le long none = absurd (omega arith)

@@ -57,7 +57,7 @@ begun-last t [] = refl
 begun-last t (p ∷ []) = refl
 begun-last t (p ∷ q ∷ ps) = refl
 
--- the same part, where it finished its segment before
+-- the same part, if it finished its segment before
 same_part : (p : Part) → p.finish ≡ true → (record p { finish = true }) ≡ p
 same_part p e = ap (λ b. record p { finish = b }) (sym e)
 

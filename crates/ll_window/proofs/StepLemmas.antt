@@ -6,7 +6,7 @@ use Rattle.ll_item.specs.Settings.{Configuration}
 use Rattle.ll_item.specs.declared.item.Item.{Item}
 use Rattle.ll_item.specs.declared.item.Item.TheVariants as item
 use Rattle.ll_item.specs.declared.part.Part.{Part}
-use Rattle.ll_window.specs.declared.fault.PushFault.{PushFault}
+use Rattle.ll_window.specs.declared.fault.WindowFault.{WindowFault}
 use Rattle.ll_window.specs.declared.part_position.PartPosition.{PartPosition}
 use Rattle.ll_window.specs.Numbers.{numbered_parts, last_place}
 use Rattle.ll_window.specs.Compact.{Compact, compact, opens_by}
@@ -44,7 +44,7 @@ time-snoc t (h ∷ gs) g = time-snoc (begun t h + duration h) gs g
 pub duration-snoc : (ps : List Part) (p : Part) → duration (ps ++ p ∷ []) ≡ duration ps + p.duration
 duration-snoc ps p = let e = sum_by-append (λ (q : Part). q.duration) ps (p ∷ []) in omega (arith, e)
 
--- what is kept of these rows of segments, where the open one begins at this time
+-- what is kept of these rows of segments, if the open one begins at this time
 abbrev told_rows : Configuration → List Row → List Part → ℕ → ℕ → ℕ → Bool → Option ℕ → Option PartPosition → Bool → Compact
 told_rows c rs ps next opens time pending restart last e = record {
   settings = c;
@@ -155,7 +155,7 @@ kept-finished c gs (p ∷ ps) time pending restart last =
 abbrev last_of : Configuration → List Part → Option PartPosition
 last_of c ps = last_place (numbered_parts c.first 0 ps)
 
--- what is kept of what items tell
+-- what is kept of the state after some items
 abbrev pub kept_of : Configuration → Told → Compact
 kept_of c t = kept c t.ended (split t.parts) t.end_time t.pending t.restart (last_of c t.parts)
 
@@ -196,7 +196,7 @@ one_more c t (item.Unrange r id) h = refl
 pub compact-snoc : (c : Configuration) (items : List Item) (i : Item) → ended items ≡ false → compact c (items ++ i ∷ []) ≡ with_item (compact c items) i
 compact-snoc c items i h = ap (kept_of c) (fold-append step start items (i ∷ [])) ∙ one_more c (told items) i h
 
--- why an item may not follow is told by what is kept
+-- the rule that refuses an item follows from what is kept
 refusal-going : (c : Configuration) (items : List Item) (i : Item) → refusal_before_end c items i ≡ refusal_going_on (compact c items) i
 refusal-going c items (item.Part part) = refl
 refusal-going c items (item.Finish r) = refl
@@ -206,12 +206,12 @@ refusal-going c items (item.End r) = refl
 refusal-going c items (item.Range r id attributes) = refl
 refusal-going c items (item.Unrange r id) = refl
 
-pub refusal_told : (k : Compact) (items : List Item) (i : Item) (f : Option PushFault) → f ≡ refusal_after k i → k ≡ compact k.settings items
+pub refusal_told : (k : Compact) (items : List Item) (i : Item) (f : Option WindowFault) → f ≡ refusal_after k i → k ≡ compact k.settings items
     → refusal k.settings items i ≡ f
 refusal_told k items i f e reached =
     ap (λ o. refusal_by (ended items) o) (refusal-going k.settings items i) ∙ ap (λ x. refusal_after x i) (sym reached) ∙ sym e
 
-not_ended : (b : Bool) (o : Option PushFault) → None ≡ refusal_by b o → b ≡ false
+not_ended : (b : Bool) (o : Option WindowFault) → None ≡ refusal_by b o → b ≡ false
 not_ended true o e = absurd (grind (arith, e))
 not_ended false o e = refl
 

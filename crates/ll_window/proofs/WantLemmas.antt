@@ -1,4 +1,4 @@
--- What is held is told by where the last part stands, and by the number of finished segments.
+-- What is there follows from the position of the last part, and from the number of finished segments.
 use Rattle.std.proofs.Common.{◌≡◌, ℕ, ◌+◌, ◌≤◌, ◌&&◌, ◌||◌, List, [], ◌∷◌, ◌++◌, Bool, true, false, cond, length, nat_le, nat_lt, refl, ap, ap₂, sym, subst, ◌*◌, ◌∙◌, arith, Option, Some, None, length-append}
 use Rattle.std.proofs.lemmas.Bool.Decides.{nat_tests}
 use Rattle.std.proofs.lemmas.List.Folds.{list_any-append}
@@ -75,7 +75,7 @@ segment_told k items m reached =
     ap (λ (x : Compact). nat_lt k.settings.first x.next_number && nat_lt m x.next_number) reached
     ∙ sym (by_count m k.settings.first 0 (k.settings.start * 1000) (segments items))
 
--- what is held stays so
+-- what is there stays there
 
 held_step : (b t more rest more' rest' : Bool) → (more ≡ true → more' ≡ true) → (rest ≡ true → rest' ≡ true)
     → (t || cond b more rest) ≡ true → (t || cond b more' rest') ≡ true

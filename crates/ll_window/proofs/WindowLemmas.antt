@@ -1,4 +1,4 @@
--- The window goes on from the window alone: what left it before and what its segments no longer list play no part.
+-- The next window follows from the window alone: segments that left it and parts that it no longer lists play no role.
 use Rattle.std.proofs.Common.{◌≡◌, ℕ, suc, ◌+◌, ◌≤◌, List, [], ◌∷◌, ◌++◌, Bool, true, false, cond, length, nat_le, nat_lt, refl, ap, sym, ◌∙◌, arith}
 use Rattle.std.proofs.lemmas.Bool.Decides.{nat_tests}
 use Rattle.std.proofs.lemmas.List.Sums.{sum_by-append}
@@ -78,7 +78,7 @@ listed_window_by : (least near tail : ℕ) (r : Row) (rs : List Row) (b : Bool)
 listed_window_by least near tail r rs true rest = rest
 listed_window_by least near tail r rs false rest = refl
 
--- which segments the window has does not turn on the parts that they list
+-- which segments the window has does not depend on the parts that they list
 pub window-listed : (least near tail : ℕ) (rs : List Row) → window least (listed near tail rs) ≡ listed near tail (window least rs)
 window-listed least near tail [] = refl
 window-listed least near tail (r ∷ rs) =
@@ -127,7 +127,7 @@ listed-again near a b (r ∷ rs) ss le =
     (nearer near (lasting rs + a) (lasting (rs ++ ss) + b) (omega (arith, g))))
     ∙ ap (λ more. shown_by (nat_lt (lasting (rs ++ ss) + b) near) r ∷ more) (listed-again near a b rs ss le)
 
--- one more segment after segments as they were listed, where it lasts longer than what was open
+-- one more segment after segments as they were listed, if it lasts longer than what was open
 pub listed-window-again : (least near a : ℕ) (rs : List Row) (s : Row) → a ≤ lasting (s ∷ [])
     → listed near 0 (window least (rs ++ s ∷ [])) ≡ listed near 0 (window least (listed near a rs ++ s ∷ []))
 listed-window-again least near a rs s le =

@@ -1,4 +1,4 @@
--- What of all items of a rendition is still needed.
+-- What is kept of all items of a rendition for its segments and parts.
 use Rattle.std.specs.Prelude.{◌≡◌, ℕ, ◌+◌, ◌*◌, List, [], ◌∷◌, ◌++◌, Bool, true, Option, Some, None, length}
 use Rattle.ll_item.specs.Items.{is_about_ranges}
 use Rattle.ll_item.specs.Settings.{Configuration, skip_limit}
@@ -13,33 +13,33 @@ use Rattle.ll_window.specs.Window.{window_limit, near_limit, gone, window, liste
 
 pub record Compact : Type 0 where
   pub settings : Configuration
-  -- the segments that a playlist shows
+  -- the finished segments that a full playlist shows (rule 9)
   pub window : List Row
   pub open_parts : List Part
-  -- the media sequence number of the open segment, or of the next where none is open
+  -- the Media Sequence Number of the open segment, or of the next one if none is open
   pub next_number : ℕ
-  -- how many finished segments are broken from the one before
+  -- the number of finished segments that are broken
   pub maps : ℕ
-  -- when the open segment begins, or the next where none is open: microseconds since 1970-01-01T00:00:00Z
+  -- when the open segment begins; if none is open, when the next one begins unless a break sets its time: microseconds since 1970-01-01T00:00:00Z
   pub open_time : ℕ
-  -- microseconds
+  -- the duration of all parts together, in microseconds
   pub end_time : ℕ
-  -- whether a break stands after the last part
+  -- whether a break came after the last part
   pub pending : Bool
-  -- the time that a break after the last part sets, where one does: milliseconds
+  -- the time that a break after the last part set, if one did: milliseconds since 1970-01-01T00:00:00Z
   pub restart : Option ℕ
-  -- how many broken segments have left the window (section 4.4.3.3)
+  -- how many broken segments have left the window (section 4.4.3.3, rule 11)
   pub discontinuity : ℕ
-  -- where the last part stands, where there is one
+  -- the position of the last part, if there is one
   pub last : Option PartPosition
   -- whether the rendition has ended
   pub ended : Bool
 
--- all finished segments
+-- all finished segments (rule 6)
 abbrev pub all_rows : Configuration → List Item → List Row
 all_rows c items = rows c.first 0 (c.start * 1000) (segments items)
 
--- of all items of one rendition
+-- what is kept of these items of one rendition (rule 11)
 abbrev pub compact : Configuration → List Item → Compact
 compact c items = record {
   settings = c;
@@ -60,35 +60,37 @@ abbrev pub clock_by : List Part → Option ℕ → ℕ → ℕ
 clock_by [] restart time = restarted restart time
 clock_by (p ∷ ps) restart time = time + duration (p ∷ ps)
 
--- when the open segment begins with one more part
+-- when the segment of the next part begins, in microseconds since 1970-01-01T00:00:00Z
 abbrev pub opens_by : List Part → Option ℕ → ℕ → ℕ
 opens_by [] restart time = restarted restart time
 opens_by (p ∷ ps) restart time = time
 
--- when the next part begins: where the last one ends, or when a break after it says
+-- when the next part begins, in microseconds since 1970-01-01T00:00:00Z: when the last one ends, or at the time that a break after it set
+-- (rule 13)
 abbrev pub clock : Compact → ℕ
 clock k = clock_by k.open_parts k.restart k.open_time
 
--- the map number of the segment that the next part belongs to: how many segments are broken so far, and one more where a break is pending
+-- the map number of the segment that the next part belongs to: how many segments are broken so far, and one more if a break is pending
+-- (rule 12)
 abbrev pub map_now : Compact → ℕ
 map_now k = k.maps + one_if (is_broken k.open_parts) + one_if k.pending
 
--- whether the first of these segments is broken, or the other where there are none
+-- whether the first of these segments is broken, or `other` if there are none
 abbrev pub first_broken : List Row → Bool → Bool
 first_broken [] other = other
 first_broken (row ∷ rows) other = row.segment.broken
 
--- whether the segment of these parts is broken; where there are none yet, whether the next one's would be
+-- whether the open segment with these parts is broken; if there are none, whether the next segment would be
 abbrev pub breaks_next : List Part → Bool → Bool
 breaks_next [] pending = pending
 breaks_next (p ∷ ps) pending = p.after_break
 
--- the map number in force at the first segment that playlists show, of the window's or the open one, or of the next where there are none: as many broken segments as have left the
--- window, and one more where that one is broken
+-- the map number in force at the first segment that a full playlist shows, finished or open, or at the next one if there are none: how many broken
+-- segments have left the window, and one more if this one is broken (rule 12)
 abbrev pub first_map : Compact → ℕ
 first_map k = k.discontinuity + one_if (first_broken k.window (breaks_next k.open_parts k.pending))
 
--- the open segment, where it has a part
+-- the open segment, if it has a part (rule 10)
 abbrev pub open_row : ℕ → ℕ → ℕ → List Part → Option Row
 open_row number maps time [] = None
 open_row number maps time (p ∷ ps) = Some (row number maps time (p ∷ ps))
@@ -96,10 +98,10 @@ open_row number maps time (p ∷ ps) = Some (row number maps time (p ∷ ps))
 abbrev pub unfinished : Compact → Option Row
 unfinished k = open_row k.next_number k.maps k.open_time k.open_parts
 
--- how many of the window's segments a delta update skips
+-- how many segments of the window a delta update skips
 abbrev pub skip_count : Compact → ℕ
 skip_count k = skipped_in (skip_limit k.settings) (duration k.open_parts) k.window
 
--- a date range changes nothing of what is kept of segments and parts
+-- adding or removing a date range changes nothing of what is kept of segments and parts
 abbrev pub RangesLaw : Type 0
 RangesLaw = (c : Configuration) (items : List Item) (i : Item) → is_about_ranges i ≡ true → compact c (items ++ i ∷ []) ≡ compact c items

@@ -1,4 +1,4 @@
--- For private contracts: what a window keeps beside its value.
+-- For private contracts: the invariant of a window, and the steps of its progress.
 use Rattle.std.specs.Prelude.{None, ◌≡◌, ℕ, ◌+◌, ◌*◌, ◌<◌, ◌≤◌, List, [], ◌∷◌, false, Some}
 use Rattle.ll_attr.specs.YearEnd.{last_micro}
 use Rattle.ll_item.specs.Settings.{Configuration, number_end}
@@ -12,7 +12,7 @@ use Rattle.ll_window.specs.Rows.{Row, restarted, lasting, broken_in}
 use Rattle.ll_window.specs.Segments.{duration}
 use Rattle.ll_window.specs.Window.{near_limit}
 
--- each of these segments ends at least so long before this time as those after it last
+-- each of these segments ends before `time` by at least the duration of those after it
 abbrev pub AreTimed : List Row → ℕ → Type 0
 AreTimed [] time = Unit
 AreTimed (r ∷ rs) time = (r.segment.time + r.segment.duration + lasting rs ≤ time) × AreTimed rs time
@@ -28,7 +28,7 @@ grown p time micros place = record p {
   last = Some place;
 }
 
--- after the open segment
+-- `p` after the open segment was finished as `s`
 abbrev pub after : Progress → Segment → Progress
 after p s = record p {
   next_number = p.next_number + 1;
@@ -37,13 +37,13 @@ after p s = record p {
   open_duration = 0;
 }
 
--- a number past the last one may come next, where no segment is open
+-- the next number may be one above the largest if no segment is open
 abbrev pub spare : List Part → ℕ
 spare [] = 1
 spare (p ∷ ps) = 0
 
--- Sums are kept, and numbers and times have not passed their ends. After the far segments those that last three target durations at
--- least.
+-- The sums are those of the segments and parts, no number or time is past its limit, and after the segments without parts at least three target
+-- durations follow.
 pub record IsKept (c : Configuration) (f : Finished) (open_parts : List Part) (p : Progress) : Type 0 where
   pub sum : f.lasting ≡ lasting f.rows.items
   pub lasts : p.open_duration ≡ duration open_parts
@@ -54,7 +54,7 @@ pub record IsKept (c : Configuration) (f : Finished) (open_parts : List Part) (p
   pub few_maps : p.maps ≤ p.next_number
   pub numbers : p.next_number ≤ number_end + spare open_parts
   pub times : restarted p.restart (p.open_time + p.open_duration) ≤ last_micro
-  -- a break sets no time before the last part's end
+  -- a break sets no time before the end of the last part
   pub forward : p.open_time + p.open_duration ≤ restarted p.restart (p.open_time + p.open_duration)
   pub hidden : AreHidden f
   pub far : 0 < f.far → near_limit c ≤ f.near_lasting + p.open_duration

@@ -1,4 +1,4 @@
--- Media sequence numbers and part indexes of all parts, one part after another (section 4.4.4.9).
+-- Media Sequence Numbers and Part Indexes of all parts, counted one part after another (section 4.4.4.9).
 use Rattle.std.specs.Prelude.{◌≡◌, ℕ, ◌+◌, List, [], ◌∷◌, ◌++◌, Bool, Option, Some, None, if◌then◌else◌}
 use Rattle.ll_item.specs.declared.part.Part.{Part}
 use Rattle.ll_window.specs.declared.part_position.PartPosition.{PartPosition}
@@ -10,7 +10,8 @@ pub record NumberedPart : Type 0 where
   pub index : ℕ
   pub part : Part
 
--- A part after a finishing one has index 0 of the next number; any other has the next index of the same number.
+-- A part after one that finishes its segment has the next number and index 0; any other has the same number and the next index
+-- (rules 6 and 7).
 abbrev pub numbered_parts : ℕ → ℕ → List Part → List NumberedPart
 numbered_parts number index [] = []
 numbered_parts number index (p ∷ ps) =
@@ -27,18 +28,18 @@ abbrev pub placed_rows : List Row → ℕ → List Part → List NumberedPart
 placed_rows [] next open_parts = placed next 0 open_parts
 placed_rows (row ∷ more) next open_parts = placed row.segment.number 0 row.parts ++ placed_rows more next open_parts
 
--- the number after these segments
+-- the Media Sequence Number after those of these segments, the first of which has `number`
 abbrev pub number_after : ℕ → List (List Part) → ℕ
 number_after number [] = number
 number_after number (segment ∷ segments) = number_after (number + 1) segments
 
--- The segments' numbers and the parts' places in them are the numbers and indexes that the parts have one by one.
+-- The numbers of segments and the places of their parts are the numbers and indexes of the parts counted one by one.
 abbrev pub NumbersLaw : Type 0
 NumbersLaw = (first maps time : ℕ) (has_ended : Bool) (ps : List Part)
     → placed_rows (rows first maps time (finished_by has_ended (split ps))) (number_after first (finished_by has_ended (split ps))) (unfinished_by has_ended (split ps))
     ≡ numbered_parts first 0 ps
 
--- the media sequence number and the index of the last of these parts, where there is one
+-- the position of the last of these parts, if there is one (rule 15)
 abbrev pub last_place : List NumberedPart → Option PartPosition
 last_place [] = None
 last_place (p ∷ []) = Some (record { number = p.number; index = p.index })

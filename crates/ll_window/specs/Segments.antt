@@ -1,4 +1,4 @@
--- Parts and Media Segments of one rendition, from the whole list of its items (sections 4.4.4 and 4.4.4.9).
+-- The parts and Media Segments of one rendition, from the whole list of its items (sections 4.4.4 and 4.4.4.9).
 use Rattle.std.specs.Prelude.{ℕ, List, [], ◌∷◌, ◌++◌, Bool, true, false, ◌==◌, filter, sum_by}
 use Rattle.ll_item.specs.Items.{rendition_of}
 use Rattle.ll_item.specs.declared.item.Item.{Item}
@@ -13,27 +13,27 @@ own rendition items = filter (λ i. rendition_of i == rendition) items
 abbrev pub parts : List Item → List Part
 parts items = (told items).parts
 
--- whether the rendition has ended
+-- whether the rendition has ended (rule 14)
 abbrev pub ended : List Item → Bool
 ended items = (told items).ended
 
--- segments that have a finishing part, and the parts after the last of them
+-- segments that a part finishes, and the parts after the last of them
 pub record Split : Type 0 where
   pub finished : List (List Part)
   pub unfinished : List Part
 
--- a part before these, which finishes a segment or doesn't
+-- the split of one part more, before all others; it finishes a segment or doesn't
 abbrev pub put_by : Bool → Part → List (List Part) → List Part → Split
 put_by true p segments rest = record { finished = (p ∷ []) ∷ segments; unfinished = rest }
 put_by false p [] rest = record { finished = []; unfinished = p ∷ rest }
 put_by false p (segment ∷ segments) rest = record { finished = (p ∷ segment) ∷ segments; unfinished = rest }
 
--- parts up to and with a finishing one are a segment
+-- parts up to and with one that finishes are a segment (rule 3)
 abbrev pub split : List Part → Split
 split [] = record { finished = []; unfinished = [] }
 split (p ∷ ps) = put_by p.finish p (split ps).finished (split ps).unfinished
 
--- these parts as a segment, where there are any
+-- these parts as a segment, if there are any
 abbrev pub closed : List Part → List (List Part)
 closed [] = []
 closed (p ∷ ps) = (p ∷ ps) ∷ []
@@ -46,14 +46,14 @@ abbrev pub unfinished_by : Bool → Split → List Part
 unfinished_by true s = []
 unfinished_by false s = s.unfinished
 
--- the finished segments; the end closes the last of them as if its last part had finished it
+-- the finished segments; the end of the rendition finishes the open one (rule 5)
 abbrev pub segments : List Item → List (List Part)
 segments items = finished_by (ended items) (split (parts items))
 
--- the parts of the open segment
+-- the parts of the open segment (rule 5)
 abbrev pub open_segment : List Item → List Part
 open_segment items = unfinished_by (ended items) (split (parts items))
 
--- microseconds
+-- the duration of these parts together, in microseconds (rule 3)
 abbrev pub duration : List Part → ℕ
 duration ps = sum_by (λ p. p.duration) ps

@@ -1,4 +1,4 @@
--- For private contracts: what one more item makes of what is kept of the items before it, and why it may not follow them.
+-- For private contracts: what is kept after one more item, from what was kept before it.
 use Rattle.std.specs.Prelude.{ℕ, ◌+◌, List, [], ◌∷◌, ◌++◌, Bool, true, false, Option, Some, None, length}
 use Rattle.ll_item.specs.declared.item.Item.{Item}
 use Rattle.ll_item.specs.declared.item.Item.TheVariants as item
@@ -10,15 +10,15 @@ use Rattle.ll_item.specs.Told.{finished_last, first_of, kept_part}
 use Rattle.ll_window.specs.Segments.{duration}
 use Rattle.ll_window.specs.Window.{window_limit, near_limit, gone, window, listed}
 
--- where the next part stands
+-- the position of the next part
 abbrev pub next_place : Compact → PartPosition
 next_place k = record { number = k.next_number; index = length k.open_parts }
 
--- the parts that are listed, now that the open segment lasts so long
+-- without the parts that playlists no longer list, given how long the open segment lasts now
 abbrev pub relisted : Compact → Compact
 relisted k = record k { window = listed (near_limit k.settings) (duration k.open_parts) k.window }
 
--- the open segment has one more part
+-- one more part in the open segment, before parts are dropped
 abbrev pub grown_by : Compact → Part → Compact
 grown_by k p = record k {
   open_time = opens_by k.open_parts k.restart k.open_time;
@@ -29,15 +29,15 @@ grown_by k p = record k {
   last = Some (next_place k);
 }
 
--- one more part of the open segment
+-- one more part in the open segment
 abbrev pub with_open : Compact → Part → Compact
 with_open k p = relisted (grown_by k p)
 
--- the window and the open segment
+-- the segments of the window and then the open one
 abbrev pub window_and_open : Compact → List Row
 window_and_open k = k.window ++ row k.next_number k.maps k.open_time k.open_parts ∷ []
 
--- the open segment is one of the window
+-- the open segment is finished, before parts are dropped
 abbrev pub joined : Compact → Compact
 joined k = record k {
   window = window (window_limit k.settings) (window_and_open k);
@@ -60,7 +60,7 @@ with_part_by false k p = with_open k p
 abbrev pub with_part : Compact → Part → Compact
 with_part k p = with_part_by p.finish k p
 
--- a break stands after the last part
+-- a break after the last part
 abbrev pub with_break : Compact → Option ℕ → Compact
 with_break k time = record k { pending = true; restart = first_of time k.restart }
 
@@ -68,7 +68,7 @@ abbrev pub finished_by : List Part → Compact → Compact
 finished_by [] k = k
 finished_by (p ∷ ps) k = after_segment (record k { open_parts = finished_last (p ∷ ps) })
 
--- the open segment ends with its last part
+-- a finish: the open segment ends with its last part
 abbrev pub with_finish : Compact → Compact
 with_finish k = finished_by k.open_parts k
 
@@ -76,7 +76,7 @@ abbrev pub ended_by : List Part → Compact → Compact
 ended_by [] k = record k { ended = true }
 ended_by (p ∷ ps) k = after_segment (record k { ended = true })
 
--- the rendition has ended
+-- the end of the rendition
 abbrev pub with_end : Compact → Compact
 with_end k = ended_by k.open_parts k
 

@@ -17,11 +17,11 @@ use std::marker::Model;
 use std::mem;
 use std::sync::Arc;
 
-/// A finished segment with the parts that it lists, which copies share.
+/// A finished segment with the parts that playlists list of it, which copies share.
 #[derive(Debug, Drop)]
 pub(crate) struct FinishedSegment {
     pub(crate) segment: Segment,
-    /// None, once no playlist lists them any more.
+    /// The parts, or `None` once playlists no longer list them.
     parts: Option<Arc<Vec<Part>>>,
 }
 
@@ -50,7 +50,7 @@ impl Clone for FinishedSegment {
 }
 
 impl FinishedSegment {
-    /// The parts that it lists.
+    /// Returns the parts that playlists list.
     pub(crate) fn parts(&self) -> &[Part]
         ensures { result.now ≡ self.now.parts }
     {
@@ -60,7 +60,7 @@ impl FinishedSegment {
         }
     }
 
-    /// Gives up its parts.
+    /// Drops the parts.
     fn hide(&mut self)
         ensures { self.new ≡ shown_by false self.old }
     {
@@ -72,13 +72,13 @@ impl FinishedSegment {
 #[derive(Debug, Drop)]
 pub(crate) struct Finished {
     pub(crate) rows: VecDeque<FinishedSegment>,
-    /// How long they last together, in microseconds.
+    /// The duration of all segments together, in microseconds.
     pub(crate) lasting: u64,
-    /// How many broken ones have left.
+    /// The number of broken segments that have left the window.
     pub(crate) discontinuity: u64,
-    /// How many of them, the first ones, list no parts any more.
+    /// The number of segments, the first ones, whose parts playlists no longer list.
     pub(crate) far: usize,
-    /// How long the others last together, in microseconds.
+    /// The duration of the other segments together, in microseconds.
     pub(crate) near_lasting: u64,
 }
 
@@ -95,7 +95,7 @@ impl Finished {
         }
     }
 
-    /// Finished segments equal to these, which share their parts, or an error where no memory is found.
+    /// Copies the segments. The copies share their parts.
     pub(crate) fn copy(&self) -> Result<Finished, AllocError>
         ensures { IfOk result (λ f. (f.rows.items ≡ self.now.rows.items) × (f.lasting ≡ self.now.lasting)
             × (f.discontinuity ≡ self.now.discontinuity) × (f.far ≡ self.now.far) × (f.near_lasting ≡ self.now.near_lasting)) }
@@ -109,8 +109,8 @@ impl Finished {
         })
     }
 
-    /// Adds the open segment, which has all these parts, and gives up the segments after which the others alone last so
-    /// many microseconds at least. It answers the segment that it added; where no memory is found, nothing changes.
+    /// Adds the open segment of `progress` with all of `open_parts`, which is empty then, and drops each segment if those after it last
+    /// at least `least` microseconds. Returns the added segment. If memory runs out, nothing changes.
     pub(crate) fn finish(
         &mut self,
         alloc: Global,
@@ -147,7 +147,7 @@ impl Finished {
         Ok(segment)
     }
 
-    /// Drops the parts of each segment that at least `near` microseconds follow, those of the open parts included.
+    /// Drops the parts of each segment after which come at least `near` microseconds, the `open_duration` of the open parts included.
     pub(crate) fn hide(&mut self, near: u64, open_duration: u64)
         requires hidden { AreHidden self.old }
         requires far { 0 < self.old.far → near ≤ self.old.near_lasting + open_duration }
@@ -160,8 +160,8 @@ impl Finished {
         while self.hide_next(near, open_duration) {}
     }
 
-    /// Drops the parts of the first segment that still has them, if at least `near` microseconds follow it, those of the open parts
-    /// included. Returns whether it did.
+    /// Drops the parts of the first segment that still has them, if at least `near` microseconds come after it, the `open_duration` of
+    /// the open parts included. Returns whether it did.
     fn hide_next(&mut self, near: u64, open_duration: u64) -> bool
         requires hidden { AreHidden self.old }
         requires far { 0 < self.old.far → near ≤ self.old.near_lasting + open_duration }
@@ -187,14 +187,14 @@ impl Finished {
         true
     }
 
-    /// The segment at this place with its parts, 0 being the first.
+    /// Returns the segment at `place`, from 0, with its parts.
     pub(crate) fn row(&self, place: usize) -> Option<&FinishedSegment>
         ensures { option_copied result ≡ slice_get self.now.rows.items place }
     {
         self.rows.get(place)
     }
 
-    /// Returns how many of the segments have more than `limit` microseconds after them, those of the open parts included.
+    /// Returns how many segments have more than `limit` microseconds after them, the `open_duration` of the open parts included.
     pub(crate) fn skip_count(&self, limit: u64, open_duration: u64) -> usize
         requires sum { self.now.lasting ≡ spec.lasting self.now.rows.items }
         requires lasting { self.now.lasting + open_duration < 2 ^ 64 }
@@ -208,7 +208,7 @@ impl Finished {
         count
     }
 
-    /// Drops each segment that segments of at least `least` microseconds follow.
+    /// Drops each segment if those after it last at least `least` microseconds.
     fn shrink(&mut self, least: u64)
         requires sum { self.old.lasting ≡ spec.lasting self.old.rows.items }
         requires breaks { self.old.discontinuity + broken_in self.old.rows.items < 2 ^ 64 }
@@ -222,7 +222,7 @@ impl Finished {
         while self.leave(least) {}
     }
 
-    /// Drops the first segment, if those after it last at least `least` microseconds. Returns whether it did.
+    /// Drops the first segment if those after it last at least `least` microseconds. Returns whether it did.
     fn leave(&mut self, least: u64) -> bool
         requires sum { self.old.lasting ≡ spec.lasting self.old.rows.items }
         requires breaks { self.old.discontinuity + broken_in self.old.rows.items < 2 ^ 64 }
@@ -260,7 +260,7 @@ impl Finished {
     }
 }
 
-/// Takes these parts out of their place, to be shared. If no memory is found, they stay there.
+/// Moves `parts` into a value that can be shared. If memory runs out, they stay.
 fn shared(alloc: Global, parts: &mut Vec<Part>) -> Result<Arc<Vec<Part>>, AllocError>
     ensures shared { IfOk result (λ all. (arc_value all).items ≡ parts.old.items) }
     ensures emptied { OnOk result (parts.new.items ≡ []) }

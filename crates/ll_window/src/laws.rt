@@ -1,28 +1,28 @@
-//! Facts of the definitions, proved; none of these does anything.
+//! Laws of the definitions of this crate, stated by functions that do nothing when they run.
 ghost use Rattle.ll_window.specs.Compact.{RangesLaw};
 ghost use Rattle.ll_window.specs.Numbers.{NumbersLaw};
 ghost use Rattle.ll_window.specs.Wants.{WantsLaw};
 ghost use Rattle.ll_window.specs.Window.{WindowLaw};
 
-/// Segments' media sequence numbers and parts' places in them are the numbers and indexes that the parts have one by one
-/// (section 4.4.4.9).
+/// States that the Media Sequence Numbers of segments and the places of their parts are the numbers and indexes of the parts counted
+/// one by one (section 4.4.4.9).
 pub fn numbers_law()
     ensures { NumbersLaw }
 {}
 
-/// The window is the shortest suffix of the finished segments that lasts long enough, and all of them where they don't last
-/// so long (section 6.2.2).
+/// States that the window is the shortest suffix of the finished segments that lasts long enough, or all of them if they last
+/// less (section 6.2.2).
 pub fn window_law()
     ensures { WindowLaw }
 {}
 
-/// What is kept of segments and parts stays the same when a date range is added or taken away.
+/// States that adding or removing a date range changes nothing of what is kept of segments and parts.
 pub fn ranges_law()
     ensures { RangesLaw }
 {}
 
-/// What is held stays so, whatever comes, and date ranges change nothing of it; an index past the last part of a finished segment
-/// wants the first part of the next one (section 6.2.5.2).
+/// States that a segment or part that is there stays there, whatever items follow; that date ranges don't change what is there; and that a
+/// Part Index past the last part of a finished segment stands for the first part of the next one (section 6.2.5.2).
 pub fn wants_law()
     ensures { WantsLaw }
 {}

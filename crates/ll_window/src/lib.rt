@@ -11,7 +11,7 @@ mod segment;
 mod wants;
 mod window;
 
-pub use fault::{PushError, PushFault};
+pub use fault::{PushError, WindowFault};
 pub use laws::{numbers_law, ranges_law, wants_law, window_law};
 pub use part_position::PartPosition;
 pub use segment::Segment;

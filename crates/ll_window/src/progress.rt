@@ -1,4 +1,4 @@
-//! How far a rendition has come.
+//! The counts and times of a rendition from which its next part goes on.
 ghost use Rattle.std.specs.Prelude.{◌≡◌, ◌+◌, ◌<◌, ◌≤◌, ◌^◌};
 ghost use Rattle.ll_window.specs.Compact.{breaks_next};
 ghost use Rattle.ll_window.specs.Rows.{row};
@@ -11,31 +11,32 @@ use crate::part_position::PartPosition;
 use crate::segment::Segment;
 use ll_item::Part;
 
-/// How many segments are finished and broken, when the open one begins, and how long all parts last.
+/// The counts and times of a rendition from which its next part goes on.
 #[derive(Clone, Copy, Debug)]
 pub(crate) struct Progress {
-    /// The media sequence number of the open segment, or of the next where none is open.
+    /// The Media Sequence Number of the open segment, or of the next one if none is open.
     pub(crate) next_number: u64,
-    /// How many finished segments are broken from the one before.
+    /// The number of finished segments that are broken.
     pub(crate) maps: u64,
-    /// When the open segment begins, or the next where none is open: microseconds since 1970-01-01T00:00:00Z.
+    /// The time at which the open segment begins; if none is open, at which the next one begins unless a break sets its time. In microseconds
+    /// since 1970-01-01T00:00:00Z.
     pub(crate) open_time: u64,
-    /// How long the open segment lasts, in microseconds.
+    /// The duration of the open segment, in microseconds.
     pub(crate) open_duration: u64,
-    /// How long all parts last, in microseconds.
+    /// The duration of all parts together, in microseconds.
     pub(crate) end_time: u64,
-    /// Whether a break stands after the last part.
+    /// Whether a break came after the last part.
     pub(crate) pending: bool,
-    /// The time that a break after the last part sets, where one does: milliseconds.
+    /// The time that a break after the last part set, if one did: milliseconds since 1970-01-01T00:00:00Z.
     pub(crate) restart: Option<u64>,
-    /// Where the last part stands, where there is one.
+    /// The position of the last part, if there is one.
     pub(crate) last: Option<PartPosition>,
     /// Whether the rendition has ended.
     pub(crate) ended: bool,
 }
 
 impl Progress {
-    /// The open segment, which has these parts.
+    /// Returns the open segment, whose parts are `parts`.
     pub(crate) fn segment(&self, parts: &[Part]) -> Segment
         requires lasts { self.now.open_duration ≡ duration parts.now }
         requires few { self.now.maps + 1 < 2 ^ 64 }
@@ -51,7 +52,7 @@ impl Progress {
         }
     }
 
-    /// The map number of the segment that the next part belongs to, where the open segment has these parts.
+    /// Returns the map number of the segment that the next part belongs to. The parts of the open segment are `parts`.
     pub(crate) fn map_number(&self, parts: &[Part]) -> u64
         requires few { self.now.maps + 2 < 2 ^ 64 }
         ensures { result ≡ self.now.maps + spec.one_if (spec.is_broken parts.now) + spec.one_if self.now.pending }
@@ -59,7 +60,7 @@ impl Progress {
         self.maps + one_if(is_broken(parts)) + one_if(self.pending)
     }
 
-    /// Whether the segment of these parts is broken; where there are none yet, whether the next one's would be.
+    /// Returns whether the open segment, whose parts are `parts`, is broken; if there are none, whether the next segment would be.
     pub(crate) fn breaks(&self, parts: &[Part]) -> bool
         ensures { result ≡ breaks_next parts.now self.now.pending }
     {
@@ -69,7 +70,7 @@ impl Progress {
         }
     }
 
-    /// Returns this with one more part, of `micros` microseconds at `place`, of an open segment that begins at `time`.
+    /// Returns the progress with one more part, of `micros` microseconds at `place`, in an open segment that begins at `time`.
     pub(crate) fn with_part(self, time: u64, micros: u64, place: PartPosition) -> Progress
         requires open { self.open_duration + micros < 2 ^ 64 }
         requires end { self.end_time + micros < 2 ^ 64 }
@@ -86,7 +87,7 @@ impl Progress {
         }
     }
 
-    /// After the open segment, which is finished.
+    /// Returns the progress after the open segment was finished as `segment`.
     pub(crate) fn after(self, segment: Segment) -> Progress
         requires number { self.next_number + 1 < 2 ^ 64 }
         requires time { self.open_time + segment.duration < 2 ^ 64 }
@@ -102,7 +103,7 @@ impl Progress {
     }
 }
 
-/// One where something is so, else none.
+/// Returns 1 if `so`, else 0.
 pub(crate) fn one_if(so: bool) -> u64
     ensures value { result ≡ spec.one_if so }
     ensures few { result ≤ 1 }
@@ -110,7 +111,7 @@ pub(crate) fn one_if(so: bool) -> u64
     if so { 1 } else { 0 }
 }
 
-/// Whether a segment of these parts is broken from the one before.
+/// Returns whether a segment of `parts` is broken.
 pub(crate) fn is_broken(parts: &[Part]) -> bool
     ensures { result ≡ spec.is_broken parts.now }
 {

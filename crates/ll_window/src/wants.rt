@@ -1,4 +1,4 @@
-//! What requests that wait want, and whether it is there.
+//! Whether the segment or part that a request waits for is there, or too far ahead (section 6.2.5.2).
 ghost use Rattle.std.specs.Prelude.{◌≡◌, ◌≤◌, ◌+◌, List, nat_lt};
 ghost use Rattle.ll_item.specs.declared.item.Item.{Item};
 ghost use Rattle.ll_window.specs.Compact.{compact};
@@ -10,7 +10,7 @@ use crate::window::Window;
 use ll_item::Settings;
 
 impl PartPosition {
-    /// Whether a part that stands here is the wanted one or comes after it.
+    /// Returns whether the part at this position is part `part` of segment `msn`, or comes after it.
     pub(crate) fn reaches(self, msn: u64, part: u64) -> bool
         ensures { result ≡ spec.reaches msn part self }
     {
@@ -19,9 +19,8 @@ impl PartPosition {
 }
 
 impl Window {
-    /// Whether the rendition has the part of this media sequence number and index, or a later one (_HLS_msn and _HLS_part,
-    /// section 6.2.5.2). All parts that were ever published count. An index past the last part of a finished segment means the
-    /// first part of the next one.
+    /// Returns whether part `part` of segment `msn`, or a later one, was accepted (_HLS_msn and _HLS_part, section 6.2.5.2), also if
+    /// playlists no longer show it. An index past the last part of a finished segment stands for the first part of the next one.
     pub fn holds_part(&self, msn: u64, part: u64) -> bool
         ensures { (items : List Item) → self.now ≡ compact self.now.settings items → result ≡ spec.holds_part self.now.settings items msn part }
     {
@@ -31,8 +30,8 @@ impl Window {
         }
     }
 
-    /// Whether the rendition has the segment of this media sequence number, or a later one, and it is finished (_HLS_msn, section
-    /// 6.2.5.2). The end of the rendition finishes its last segment.
+    /// Returns whether segment `msn`, or a later one, is finished (_HLS_msn, section 6.2.5.2), also if it has left the window. The end of the
+    /// rendition finishes its last segment.
     pub fn holds_segment(&self, msn: u64) -> bool
         ensures { (items : List Item) → self.now ≡ compact self.now.settings items → result ≡ spec.holds_segment self.now.settings items msn }
     {
@@ -40,17 +39,16 @@ impl Window {
         self.settings().first() < next && msn < next
     }
 
-    /// Whether the segment of this media sequence number, or its part of this index, is so far ahead that a request for it may be
-    /// refused: a segment more than two after the last one that has a part, or a part of the open segment whose index is past
-    /// that of its last part by more than the Advance Part Limit, as many parts as make three seconds, or three where the part
-    /// target is a second or longer (section 6.2.5.2). Before the first part it is a segment more than one after the first.
+    /// Returns whether a request for segment `msn`, or for its part `part`, is too far ahead (section 6.2.5.2): the segment is more than two after
+    /// the last one that has a part, or, before the first part, more than one after the first segment; or the part is of the open segment, and its
+    /// index is past that of the last part by more than the Advance Part Limit.
     pub fn far(&self, msn: u64, part: Option<u64>) -> bool
         ensures { (items : List Item) → self.now ≡ compact self.now.settings items → result ≡ spec.far self.now.settings items msn part }
     {
         self.far_segment(msn) || self.far_part(msn, part)
     }
 
-    /// Whether a segment is too far ahead.
+    /// Returns whether segment `msn` is too far ahead.
     fn far_segment(&self, msn: u64) -> bool
         ensures { result ≡ nat_lt (number_after_last self.now.settings self.now.last + 1) msn }
     {
@@ -60,7 +58,7 @@ impl Window {
         }
     }
 
-    /// Whether a part is too far ahead, where one is wanted.
+    /// Returns whether part `part` of segment `msn` is too far ahead in the open segment; `None` never is.
     fn far_part(&self, msn: u64, part: Option<u64>) -> bool
         ensures { result ≡ spec.far_part self.now.settings self.now.next_number self.now.open_parts msn part }
     {
@@ -70,7 +68,7 @@ impl Window {
         }
     }
 
-    /// Whether an index is past that of the last open part by more than the Advance Part Limit.
+    /// Returns whether `part` is past the index of the last open part by more than the Advance Part Limit. Without an open part it isn't.
     fn is_past(&self, part: u64) -> bool
         ensures { result ≡ is_past (spec.advance_limit self.now.settings) self.now.open_parts part }
     {
@@ -79,7 +77,7 @@ impl Window {
     }
 }
 
-/// How many parts make three seconds; three where the part target is a second or longer.
+/// Returns the Advance Part Limit: how many parts make three seconds, rounded down, or three if the part target duration is a second or longer.
 fn advance_limit(settings: &Settings) -> u64
     ensures value { result ≡ spec.advance_limit settings.now }
     ensures high { result ≤ 300 }

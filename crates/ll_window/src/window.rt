@@ -1,3 +1,4 @@
+//! What is kept of the segments and parts of one rendition, and the rules that refuse its next item.
 ghost use Rattle.std.specs.Prelude.{◌≡◌, ◌≢◌, ◌≤◌, ◌+◌, ◌-◌, ◌++◌, ◌∷◌, [], List, IfOk, IfErr, IfSome, MatchResult, OnOk, OnErr, IsErrOf, None, Some, length, nat_lt, true};
 ghost use Rattle.std.specs.Arc.{arc_value};
 ghost use Rattle.std.specs.Option.{option_map};
@@ -12,7 +13,7 @@ ghost use Rattle.ll_window.specs.Step as step;
 ghost use Rattle.ll_window.specs.declared.fault.PushError.TheVariants as error;
 ghost use Rattle.ll_window.specs.Window.{segment_at, parts_at};
 
-use crate::fault::{PushError, PushFault};
+use crate::fault::{PushError, WindowFault};
 use crate::finished::Finished;
 use crate::part_position::PartPosition;
 use crate::progress::{Progress, one_if};
@@ -22,14 +23,14 @@ use std::alloc::{AllocError, Global};
 use std::marker::Model;
 use std::sync::Arc;
 
-/// The largest media sequence number.
+/// The largest Media Sequence Number.
 const LAST_NUMBER: u64 = 1 << 60;
 
-/// The last microsecond of the year 9999, from 1970 on.
+/// The last microsecond of the year 9999, counted from 1970-01-01T00:00:00Z.
 const LAST_MICRO: u64 = 253_402_300_799_999_999;
 
-/// What of all items of one rendition is still needed: the finished segments that a playlist shows and the parts of the
-/// open one. A segment leaves once those after it alone last as long as the window does at least (section 6.2.2).
+/// What is kept of the segments and parts of one rendition: the finished segments that a full playlist shows, and the parts of
+/// the open one. A segment leaves once those after it last at least as long as the settings say (section 6.2.2).
 #[derive(Debug, Drop)]
 pub struct Window {
     alloc: Global,
@@ -65,14 +66,14 @@ impl Model for Window {
 }
 
 impl Window {
-    /// The window of no items, under a copy of these settings.
+    /// Returns the window before the first item, with a copy of `settings`.
     pub fn new(alloc: Global, settings: &Settings) -> Result<Window, AllocError>
         ensures { IfOk result (λ w. w ≡ compact settings.now []) }
     {
         Ok(Window::of(alloc, Arc::new(alloc, settings.copy(alloc)?)?))
     }
 
-    /// The window of no items, under these settings, which its copies share.
+    /// Returns the window before the first item, with `settings`, which its copies share.
     pub fn of(alloc: Global, settings: Arc<Settings>) -> Window
         ensures { result ≡ compact (arc_value settings) [] }
     {
@@ -96,9 +97,12 @@ impl Window {
         }
     }
 
-    /// Adds the next item, or returns the first rule that refuses it, or that memory ran out, and changes nothing then. A date range
-    /// changes nothing here, and the end alone refuses it. The caller brings the items of one rendition alone: which one an item
-    /// names isn't looked at.
+    /// Adds the next item of the rendition. Which rendition `item` names isn't looked at. An initialization section, a date range and
+    /// a removal change nothing here, and are refused only after the end.
+    ///
+    /// # Errors
+    ///
+    /// `Refused` with the first rule that refuses the item, else `Memory`. Nothing changes then.
     pub fn push(&mut self, item: Item) -> Result<(), PushError>
         ensures accepted { (items : List Item) → self.old ≡ compact self.old.settings items
             → OnOk result ((refusal self.old.settings items item ≡ None)
@@ -118,8 +122,8 @@ impl Window {
         }
     }
 
-    /// Returns the rule by which `push` would refuse `item`.
-    pub fn test(&self, item: &Item) -> Result<(), PushFault>
+    /// Returns the first rule that refuses `item` as the next one.
+    pub fn test(&self, item: &Item) -> Result<(), WindowFault>
         ensures first { (items : List Item) → self.now ≡ compact self.now.settings items
             → MatchResult result (λ _. refusal self.now.settings items item.now ≡ None) (λ f. refusal self.now.settings items item.now ≡ Some f) }
         ensures by_window { MatchResult result (λ _. refusal_after self.now item.now ≡ None) (λ f. refusal_after self.now item.now ≡ Some f) }
@@ -130,14 +134,14 @@ impl Window {
         }
     }
 
-    /// How many finished segments a playlist shows.
+    /// Returns the number of finished segments that a full playlist shows.
     pub fn segment_count(&self) -> usize
         ensures { result ≡ length self.now.window }
     {
         self.finished.rows.len()
     }
 
-    /// The finished segment at this place, 0 being the first that a playlist shows; none after the last.
+    /// Returns the finished segment at `place`, from 0 for the first that a full playlist shows, or `None` after the last.
     #[tactic(auto, using(crate::proofs::ReaderLemmas::ends_before))]
     pub fn segment(&self, place: usize) -> Option<Segment>
         ensures value { result ≡ segment_at self.now.window place }
@@ -149,8 +153,8 @@ impl Window {
         }
     }
 
-    /// The parts that a playlist lists of the finished segment at this place: all of them while the parts after it last
-    /// less than three target durations, and then none (section 4.4.4.9); none after the last segment either.
+    /// Returns the parts that a playlist lists of the finished segment at `place`: all of them while the parts after it last
+    /// less than three target durations, and then none (section 4.4.4.9). After the last segment there are none either.
     pub fn shown_parts(&self, place: usize) -> &[Part]
         ensures { result.now ≡ parts_at self.now.window place }
     {
@@ -160,7 +164,7 @@ impl Window {
         }
     }
 
-    /// The open segment, which has no finishing part yet; none where no segment is open.
+    /// Returns the open segment, if there is one.
     pub fn open_segment(&self) -> Option<Segment>
         ensures value { result ≡ option_map (λ r. r.segment) (unfinished self.now) }
         ensures time { IfSome result (λ s. s.time ≤ last_micro) }
@@ -172,22 +176,23 @@ impl Window {
         }
     }
 
-    /// The parts of the open segment; none where no segment is open.
+    /// Returns the parts of the open segment, none if no segment is open.
     pub fn open_parts(&self) -> &[Part]
         ensures { result.now ≡ self.now.open_parts }
     {
         self.open_parts.as_slice()
     }
 
-    /// The number of the Media Initialization Section of the segment that the next part belongs to: how many segments are broken so far, and one
-    /// more where a break stands after the last part (EXT-X-MAP, section 4.4.4.5).
+    /// Returns the number of the Media Initialization Section of the segment that the next part belongs to: how many segments are broken so far,
+    /// and one more if a break came after the last part (EXT-X-MAP, section 4.4.4.5).
     pub fn map_number(&self) -> u64
         ensures { result ≡ map_now self.now }
     {
         self.progress.map_number(self.open_parts.as_slice())
     }
 
-    /// The number of the Media Initialization Section in force at the first segment that a playlist shows, which is finished or open, or is the next.
+    /// Returns the number of the Media Initialization Section in force at the first segment that a full playlist shows, finished or open; if it
+    /// shows none, at the next segment.
     pub fn first_map_number(&self) -> u64
         ensures { result ≡ first_map self.now }
     {
@@ -198,23 +203,22 @@ impl Window {
         self.finished.discontinuity + one_if(broken)
     }
 
-    /// The media sequence number of the open segment, or of the next where none is open (section 4.4.3.2).
+    /// Returns the Media Sequence Number of the open segment, or of the next one if none is open (section 4.4.3.2).
     pub fn next_number(&self) -> u64
         ensures { result ≡ self.now.next_number }
     {
         self.progress.next_number
     }
 
-    /// How many segments that are broken from the one before have left the window (EXT-X-DISCONTINUITY-SEQUENCE, section
-    /// 4.4.3.3).
+    /// Returns how many broken segments have left the window (EXT-X-DISCONTINUITY-SEQUENCE, section 4.4.3.3).
     pub fn discontinuity(&self) -> u64
         ensures { result ≡ self.now.discontinuity }
     {
         self.finished.discontinuity
     }
 
-    /// How many of the segments that a playlist shows a delta update skips: those after which the segments and the open parts
-    /// last longer than the skip limit (section 6.2.5.1).
+    /// Returns how many segments of the window a delta update skips: those after which the segments and the open parts
+    /// last longer than the Skip Boundary (section 6.2.5.1).
     pub fn skip_count(&self) -> usize
         ensures { result ≡ kept.skip_count self.now }
     {
@@ -222,29 +226,28 @@ impl Window {
         self.finished.skip_count(limit, self.progress.open_duration)
     }
 
-    /// Where the last part stands, where there is one: its segment is finished or open.
+    /// Returns the position of the last part, whose segment is finished or open, or `None` before the first part.
     pub fn last(&self) -> Option<PartPosition>
         ensures { result ≡ self.now.last }
     {
         self.progress.last
     }
 
-    /// Whether the rendition has ended (EXT-X-ENDLIST, section 4.4.3.4).
+    /// Returns whether the rendition has ended (EXT-X-ENDLIST, section 4.4.3.4).
     pub fn ended(&self) -> bool
         ensures { result ≡ self.now.ended }
     {
         self.progress.ended
     }
 
-    /// How long all parts last, those that a playlist no longer shows included, in microseconds.
+    /// Returns the duration of all parts together, in microseconds, including those that playlists no longer show.
     pub fn end_time(&self) -> u64
         ensures { result ≡ self.now.end_time }
     {
         self.progress.end_time
     }
 
-    /// A window equal to this one, which shares its settings and the parts of its finished segments, or an error where no memory is
-    /// found.
+    /// Copies the window. The copy shares its settings and the parts of its finished segments.
     pub fn copy(&self) -> Result<Window, AllocError>
         ensures { IfOk result (λ w. w ≡ self.now) }
     {
@@ -257,43 +260,43 @@ impl Window {
         })
     }
 
-    /// The settings of its channel.
+    /// Returns the settings of the channel.
     pub(crate) fn settings(&self) -> &Settings
         ensures { result.now ≡ self.now.settings }
     {
         &self.settings
     }
 
-    /// Why an item may not follow.
-    fn fault(&self, item: &Item) -> Option<PushFault>
+    /// Returns the first rule that refuses `item`.
+    fn fault(&self, item: &Item) -> Option<WindowFault>
         ensures { result ≡ refusal_after self.now item.now }
     {
         if self.progress.ended {
-            return Some(PushFault::Ended);
+            return Some(WindowFault::Ended);
         }
         match item {
             Item::Init { .. } | Item::End { .. } | Item::Range { .. } | Item::Unrange { .. } =>
                 None,
             Item::Part(part) => self.part_fault(part.duration),
-            Item::Finish { .. } if self.open_parts.is_empty() => Some(PushFault::NoSegment),
+            Item::Finish { .. } if self.open_parts.is_empty() => Some(WindowFault::NoSegment),
             Item::Finish { .. } => None,
             Item::Break { time, .. } if self.open_parts.is_empty() => self.time_fault(*time),
-            Item::Break { .. } => Some(PushFault::OpenSegment),
+            Item::Break { .. } => Some(WindowFault::OpenSegment),
         }
     }
 
-    /// Why this time may not be set.
-    fn time_fault(&self, time: Option<u64>) -> Option<PushFault>
+    /// Returns the rule that refuses a break between segments which sets `time`, in milliseconds since 1970-01-01T00:00:00Z.
+    fn time_fault(&self, time: Option<u64>) -> Option<WindowFault>
         ensures { result ≡ time_refusal (clock self.now) time }
     {
         match time {
-            Some(ms) if ms.saturating_mul(1_000) < self.clock() => Some(PushFault::TimeBack),
-            Some(ms) if LAST_MICRO < ms.saturating_mul(1_000) => Some(PushFault::TimeEnd),
+            Some(ms) if ms.saturating_mul(1_000) < self.clock() => Some(WindowFault::TimeBack),
+            Some(ms) if LAST_MICRO < ms.saturating_mul(1_000) => Some(WindowFault::TimeEnd),
             _ => None,
         }
     }
 
-    /// When the next part begins, in microseconds since 1970-01-01T00:00:00Z: where the last one ends, or when a break after it says.
+    /// Returns when the next part begins, in microseconds since 1970-01-01T00:00:00Z: when the last one ends, or at the time that a break after it set.
     pub fn clock(&self) -> u64
         ensures value { result ≡ clock self.now }
         ensures time { result ≤ last_micro }
@@ -304,7 +307,7 @@ impl Window {
         }
     }
 
-    /// When the open segment begins, with one more part.
+    /// Returns when the segment of the next part begins, in microseconds since 1970-01-01T00:00:00Z.
     fn begun(&self) -> u64
         ensures { result ≡ opens_by self.now.open_parts self.now.restart self.now.open_time }
     {
@@ -314,27 +317,27 @@ impl Window {
         }
     }
 
-    /// Returns why a part of `micros` microseconds may not follow.
-    fn part_fault(&self, micros: u64) -> Option<PushFault>
+    /// Returns the first rule that refuses a part of `micros` microseconds.
+    fn part_fault(&self, micros: u64) -> Option<WindowFault>
         ensures { result ≡ part_refusal self.now.settings self.now.next_number (duration self.now.open_parts) (clock self.now) micros }
     {
         let (part_target, target) = (self.settings.part_target(), self.settings.target());
         if micros == 0 {
-            Some(PushFault::BadDuration)
+            Some(WindowFault::BadDuration)
         } else if part_target < micros
             || target < (self.progress.open_duration + micros + 500_000) / 1_000_000
         {
-            Some(PushFault::TooLong)
+            Some(WindowFault::TooLong)
         } else if LAST_NUMBER < self.progress.next_number {
-            Some(PushFault::CountEnd)
+            Some(WindowFault::CountEnd)
         } else if LAST_MICRO < self.clock() + micros {
-            Some(PushFault::TimeEnd)
+            Some(WindowFault::TimeEnd)
         } else {
             None
         }
     }
 
-    /// Adds an item that passes `test`. If it runs out of memory, nothing changes.
+    /// Adds an item that `test` lets through. If memory runs out, nothing changes.
     pub fn accept(&mut self, item: Item) -> Result<(), AllocError>
         requires { refusal_after self.old item ≡ None }
         ensures accepted { (items : List Item) → self.old ≡ compact self.old.settings items → OnOk result (self.new ≡ compact self.old.settings (items ++ item ∷ [])) }
@@ -344,7 +347,7 @@ impl Window {
         Ok(())
     }
 
-    /// Adds an item that may follow.
+    /// Adds an item that no rule refuses.
     fn add(&mut self, item: Item) -> Result<(), AllocError>
         requires { refusal_after self.old item ≡ None }
         ensures ok { OnOk result (self.new ≡ with_item self.old item) }
@@ -366,7 +369,7 @@ impl Window {
         Ok(())
     }
 
-    /// Adds a part that may follow.
+    /// Adds a part that no rule refuses.
     fn add_part(&mut self, part: Part) -> Result<(), AllocError>
         requires { part_refusal self.old.settings self.old.next_number (duration self.old.open_parts) (clock self.old) part.duration ≡ None }
         ensures ok { OnOk result (self.new ≡ with_part self.old part) }
@@ -383,7 +386,7 @@ impl Window {
         Ok(())
     }
 
-    /// Adds the last part of a segment, which may follow.
+    /// Adds a part that no rule refuses and that is the last of its segment.
     fn finish(&mut self, part: Part) -> Result<(), AllocError>
         requires { part_refusal self.old.settings self.old.next_number (duration self.old.open_parts) (clock self.old) part.duration ≡ None }
         ensures ok { OnOk result (self.new ≡ with_part_by true self.old part) }
@@ -408,7 +411,7 @@ impl Window {
         }
     }
 
-    /// Adds a break that may follow.
+    /// Adds a break that no rule refuses.
     fn add_break(&mut self, time: Option<u64>)
         requires { break_refusal self.old.open_parts (clock self.old) time ≡ None }
         ensures { self.new ≡ with_break self.old time }
@@ -449,7 +452,7 @@ impl Window {
         }
     }
 
-    /// Ends the rendition, and finishes the open segment where there is one.
+    /// Ends the rendition, and finishes the open segment if there is one.
     fn end(&mut self) -> Result<(), AllocError>
         ensures ok { OnOk result (self.new ≡ with_end self.old) }
         ensures err { OnErr result (self.new ≡ self.old) }
@@ -468,7 +471,7 @@ impl Window {
         Ok(())
     }
 
-    /// Where the next part stands.
+    /// Returns the position of the next part.
     fn next_place(&self) -> PartPosition
         ensures { result ≡ step.next_place self.now }
     {
@@ -478,7 +481,7 @@ impl Window {
         }
     }
 
-    /// Gives up the parts that no playlist lists any more: those of segments after which the parts last three target durations at least
+    /// Drops the parts that playlists no longer list: those of segments after which the parts last at least three target durations
     /// (section 4.4.4.9).
     fn hide(&mut self)
         ensures { self.new ≡ relisted self.old }

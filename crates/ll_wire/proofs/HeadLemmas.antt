@@ -23,7 +23,7 @@ read-more : (bytes more : List ℕ) → read (bytes ++ more) ≡ fold step (read
 unfolding read
 read-more bytes more = fold-more step start bytes more
 
--- the first n bytes of more than so many
+-- the first n bytes of a list that goes on after them
 front_more : (n : ℕ) (bytes more : List ℕ) → length bytes ≤ n → take n (bytes ++ more) ≡ bytes ++ take (n - length bytes) more
 front_more n bytes more le =
     let e : n ≡ length bytes + (n - length bytes) = omega arith in
@@ -51,7 +51,7 @@ definite bytes more lt Going = let a : nat_le 8192 (length bytes) ≡ false = gr
 definite bytes more lt (Done h) = inr refl
 definite bytes more lt Lost = inr refl
 
--- what n bytes at the front come to
+-- the verdict on the first n bytes
 abbrev front_at : ℕ → List ℕ → HeadValue
 front_at n bytes = verdict bytes (outcome (read (take n bytes)))
 
@@ -83,7 +83,7 @@ front_stays n bytes more is =
       | inr le ↦ inr (long_stays n bytes more (omega arith) le)
     ]
 
--- more bytes change nothing but what is unfinished
+-- more bytes change only what is unfinished
 pub head-stays : (bytes more : List ℕ) → (head_of bytes ≡ Unfinished) ⊎ (head_of (bytes ++ more) ≡ head_of bytes)
 unfolding head_of
 head-stays bytes more = front_stays 8192 bytes more refl

@@ -1,4 +1,4 @@
--- Every response has a byte, and its first bytes tell whether it is one with media.
+-- Every response has a byte, and its first bytes show whether it is one with media.
 use Rattle.std.proofs.Common.{◌≡◌, ◌≢◌, ℕ, ◌<◌, ◌+◌, ◌/◌, ◌%◌, ◌==◌, ◌&&◌, List, [], ◌∷◌, ◌++◌, Bool, true, false, arith, codes, if◌then◌else◌, length, length-append, refl, subst, sym}
 use borrow.Author.Tests.{eqb-true, false-eqb}
 use Rattle.http.specs.StatusCode.{IsStatusCode}
@@ -44,7 +44,7 @@ responds (answer.Head fault) keep = of_message (status_of (answer.Head fault)) (
 
 -- ---- statuses
 
--- each status that is told has three digits
+-- the status of each answer has three digits
 pub reply-code : (reply : Reply) → IsStatusCode (reply_status reply)
 reply-code (now.Text page) = (omega arith, omega arith)
 reply-code (now.Media piece) = (omega arith, omega arith)

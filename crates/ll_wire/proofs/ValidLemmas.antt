@@ -255,7 +255,7 @@ read-append : (bytes more : List ℕ) → read (bytes ++ more) ≡ fold step (re
 unfolding read
 read-append bytes more = fold-more step start bytes more
 
--- where no head can follow, and no target is unfinished, nothing goes on
+-- if no head can follow, and no target is unfinished, the reading is lost
 never_by : (bytes : List ℕ) (o : Outcome) → outcome (read bytes) ≡ o → NeverHasRequest bytes → is_in_target (read bytes) ≡ false → o ≡ Lost
 never_by bytes Lost e never f = refl
 never_by bytes (Done h) e never f =
@@ -304,7 +304,7 @@ lost_is_wrong : (s : Reading) → outcome s ≡ Lost → s ≡ Wrong
 lost_is_wrong Wrong e = refl
 lost_is_wrong _ e = cc
 
--- where there is no head yet and one may come, the reading goes on
+-- if there is no head yet and one may come, the reading goes on
 may_by : (bytes : List ℕ) (o : Outcome) → outcome (read bytes) ≡ o → HasNoRequest bytes → MayBecomeRequest bytes → o ≡ Going
 may_by bytes Going e none may = refl
 may_by bytes (Done h) e none may =
@@ -343,7 +343,7 @@ fields_long (f ∷ fs) all =
     end_long crlf = omega arith
     end_long lf = omega arith
 
--- so many bytes have no more than a third as many fields
+-- bytes have no more than a third as many fields
 pub few_fields : (room : ℕ) (bytes : List ℕ) → length bytes < 3 * room → RequestExceeds room bytes → ⊥
 few_fields room bytes short x =
     let h = x.3 in

@@ -1,4 +1,4 @@
--- What stands at the front of a connection's bytes.
+-- The head of a request at the front of a connection's bytes: its value, or its first fault (RFC 9112, sections 2 to 5).
 use Rattle.std.specs.Prelude.{ℕ, ◌<◌, ◌≤◌, ⊤, List, Bool, true, false, not, ◌==◌, ◌-◌, ◌&&◌, ◌||◌, nat_lt, nat_le, length, take, drop, map, codes, bytes_eq, count_by, slice_range, if◌then◌else◌}
 use Rattle.std.specs.List.{list_any, prefix_len, suffix_len}
 use Rattle.std.specs.Char.{is_ascii_whitespace}
@@ -13,13 +13,13 @@ use Rattle.ll_wire.specs.declared.head.Head.TheVariants as found
 use Rattle.ll_wire.specs.declared.fault.HeadFault.{HeadFault}
 use Rattle.ll_wire.specs.declared.fault.HeadFault.TheVariants.{BadHead, HeadTooLarge, BadHost, BadMethod, BadBody}
 
--- a request: the length of its head, its target, and whether the connection is kept after it
+-- a request: the number of bytes of its head, its target, and whether the connection is kept after it
 pub record RequestValue : Type 0 where
   pub len : ℕ
   pub target : List ℕ
   pub keep : Bool
 
--- what stands at the front: less than a head, a request, or what no request begins with
+-- what stands at the front: less than a head, a request, or bytes that are refused
 pub data HeadValue : Type 0 where
   Unfinished : HeadValue
   Whole : RequestValue → HeadValue
@@ -45,7 +45,7 @@ is_named name f = str_eq_ignore_ascii_case f.0 name
 abbrev pub is_host : FieldText → Bool
 is_host f = is_named (codes "Host") f
 
--- a body follows
+-- the field says that a body follows
 abbrev pub tells_body : FieldText → Bool
 tells_body f = is_named (codes "Transfer-Encoding") f || (is_named (codes "Content-Length") f && not (bytes_eq f.1 (codes "0")))
 
@@ -55,11 +55,11 @@ trimmed_front text = drop (prefix_len is_ascii_whitespace text) text
 abbrev pub trimmed_back : List ℕ → List ℕ
 trimmed_back text = take (length text - suffix_len is_ascii_whitespace text) text
 
--- a member without the white space around it is the token `close`; in a field's value spaces and tabs are all white space that there is
+-- a list's member, without the white space around it, is the token `close`; the only white space in a field's value is spaces and tabs
 abbrev pub is_close : List ℕ → Bool
 is_close member = str_eq_ignore_ascii_case (trimmed_back (trimmed_front member)) (codes "close")
 
--- the connection is closed after the answer: `close` is one of the tokens between commas
+-- the field says that the connection is closed after the answer: `close` is one of its comma-separated tokens
 abbrev pub tells_close : FieldText → Bool
 tells_close f = is_named (codes "Connection") f && list_any is_close (pieces_at 44 f.1)
 
@@ -76,7 +76,7 @@ lacks_host minor fields = minor == 1 && not (count_by is_host fields == 1)
 abbrev pub is_kept : ℕ → List FieldText → Bool
 is_kept minor fields = minor == 1 && not (list_any tells_close fields)
 
--- the first fault of a whole head counts: too many fields, not one Host, another method, a body
+-- the first fault of a whole head, in this order: too many fields, not one Host, another method, a body
 abbrev pub first_fault : Bool → Bool → Bool → Bool → RequestValue → HeadValue
 first_fault true host method body r = Fault HeadTooLarge
 first_fault false true method body r = Fault BadHost
@@ -84,23 +84,23 @@ first_fault false false true body r = Fault BadMethod
 first_fault false false false true r = Fault BadBody
 first_fault false false false false r = Whole r
 
--- what a whole head asks for, or its first fault, by its length, method, target, version and fields
+-- the request of a whole head, or its first fault, by its length, method, target, minor version and fields
 abbrev pub judged_parts : ℕ → List ℕ → List ℕ → ℕ → List FieldText → HeadValue
 judged_parts len method target minor fields =
     first_fault (nat_lt most_fields (length fields)) (lacks_host minor fields) (not (bytes_eq method (codes "GET"))) (list_any tells_body fields)
     (record { len = len; target = target; keep = is_kept minor fields })
 
--- the same of the head
+-- the same, given the head
 unfoldable pub judged : RequestHead → HeadValue
 judged h = judged_parts (length (print_request h)) h.method h.target h.minor (field_texts h)
 
--- bytes with no whole head: as many as a head may have are too large
+-- the value of bytes without a whole head: those that are as many as a head may have are too large
 abbrev pub unfinished : List ℕ → HeadValue
 unfinished bytes = if nat_le most_bytes (length bytes) then Fault HeadTooLarge else Unfinished
 
 -- ---- any bytes
 
--- what a reading has come to: it goes on, it has read a head, or no head begins so
+-- the state of a reading: it goes on, it has read a head, or its bytes begin no head
 pub data Outcome : Type 0 where
   Going : Outcome
   Done : RequestHead → Outcome
@@ -122,7 +122,7 @@ outcome (ValueReturn h name raw) = Going
 outcome (reading.Whole h) = Done h
 outcome Wrong = Lost
 
--- in a request's target, whose bytes may or may not become text
+-- the reading is in a request's target, which may or may not turn out to be UTF-8
 abbrev pub is_in_target : Reading → Bool
 is_in_target (Target h) = true
 is_in_target (Blank h) = false
@@ -144,17 +144,17 @@ verdict bytes Going = unfinished bytes
 verdict bytes (Done h) = judged h
 verdict bytes Lost = Fault BadHead
 
--- what stands at the front of these bytes, of which no more are looked at than a head may have
+-- what stands at the front of the bytes, by the first 8,192 of them
 unfoldable pub head_of : List ℕ → HeadValue
 head_of bytes = verdict bytes (outcome (read (take most_bytes bytes)))
 
--- what `Head` says in the bytes that it was found in
+-- the value of a `Head` that was found in the bytes
 abbrev pub head_value : List ℕ → Head → HeadValue
 head_value bytes found.Part = Unfinished
 head_value bytes (found.Bad fault) = Fault fault
 head_value bytes (found.Whole len request) = Whole (record { len = len; target = slice_range bytes request.from request.to; keep = request.keep })
 
--- a request that was found lies in its head, and its head in the bytes
+-- the target lies in the head, and the head, which isn't empty, in the bytes
 abbrev pub LiesIn : List ℕ → Head → Type 0
 LiesIn bytes found.Part = ⊤
 LiesIn bytes (found.Bad fault) = ⊤

@@ -1,3 +1,4 @@
+-- The definitions of this crate: heads of requests, and responses (RFC 9112).
 pub mod Response
 pub mod Parts
 pub mod Reading

@@ -1,16 +1,17 @@
+//! The answer to a request, from which its response is made.
 use crate::fault::HeadFault;
 use ll_directive::TargetFault;
 use ll_verdict::{AskFault, Reply};
 
-/// What a request is answered.
+/// The answer to a request.
 #[derive(Drop)]
 pub enum Answer {
-    /// What its channel gives it.
+    /// The reply of its channel.
     Reply(Reply),
-    /// Its channel can't take it now.
+    /// The reason why its channel can't take it now.
     Unavailable(AskFault),
-    /// Its target wants nothing.
+    /// The fault of its target.
     Target(TargetFault),
-    /// Its head is refused.
+    /// The fault of its head.
     Head(HeadFault),
 }

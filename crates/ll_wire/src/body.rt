@@ -1,4 +1,4 @@
-//! A response in two parts: one of its own, and one that others may share.
+//! A response: its head, and the body after it, which others may share.
 ghost use Rattle.std.specs.Prelude.{◌≡◌, ◌≤◌, ◌<◌, ◌^◌, ◌++◌, drop, length};
 ghost use Rattle.std.specs.List.{concat};
 ghost use Rattle.ll_wire.specs.Parts.{bytes_of, shared_bytes};
@@ -8,28 +8,28 @@ use crate::slices::Slices;
 use ll_item::SharedBytes;
 use std::sync::ArcStr;
 
-/// The end of a response that others may share, so that it is never copied.
+/// The end of a response, which is shared and never copied.
 #[derive(Drop)]
 pub enum Body {
-    /// Nothing is shared: the head is all of the response.
+    /// Nothing shared: the head is the whole response.
     Nothing,
-    /// A playlist's text alone: nothing of the channel is kept while it is sent.
+    /// A playlist's text alone, so that nothing else of the channel is kept while it is sent.
     Playlist(ArcStr),
     /// Media.
     Media(MediaBody),
 }
 
-/// A response: the head, which was written for it alone, and right after it the body.
+/// A response: the head, written for it alone, and then the body.
 #[derive(Drop)]
-pub struct Message {
-    /// The lines before the body and, where the body is not shared, the body too.
+pub struct Response {
+    /// The lines before the body and, if the body isn't shared, the body too.
     pub head: Vec<u8>,
-    /// What follows the head.
+    /// The shared bytes after the head.
     pub body: Body,
 }
 
 impl Body {
-    /// How many bytes it has.
+    /// Returns its number of bytes.
     pub fn len(&self) -> usize
         ensures length { result ≡ length (shared_bytes self.now) }
         ensures few { result < 2 ^ 63 }
@@ -41,7 +41,7 @@ impl Body {
         }
     }
 
-    /// What follows its first bytes, of which there are so many: bytes that lie together, and then blocks.
+    /// Returns what follows the first `n` bytes: a slice, and the blocks after it.
     fn after(&self, n: usize) -> (&[u8], &[SharedBytes])
         requires { n ≤ length (shared_bytes self.now) }
         ensures { result.0.now ++ concat result.1.now ≡ drop n (shared_bytes self.now) }
@@ -54,15 +54,15 @@ impl Body {
     }
 }
 
-impl Message {
-    /// How many bytes it has.
+impl Response {
+    /// Returns its number of bytes.
     pub fn len(&self) -> usize
         ensures { result ≡ length (bytes_of self.now) }
     {
         self.head.len() + self.body.len()
     }
 
-    /// What follows its first bytes, of which there are so many. Nothing is copied.
+    /// Returns what follows the first `n` bytes, without copying it.
     pub fn after(&self, n: usize) -> Slices<'_>
         requires { n ≤ length (bytes_of self.now) }
         ensures { result ≡ drop n (bytes_of self.now) }
@@ -78,7 +78,7 @@ impl Message {
         }
     }
 
-    /// What follows so many bytes in the head, and how many of them are in the body.
+    /// Returns what follows the first `n` bytes in the head, and how many of these bytes are in the body.
     fn head_after(&self, n: usize) -> (&[u8], usize)
         requires { n ≤ length (bytes_of self.now) }
         ensures within { result.1 ≤ length (shared_bytes self.now.body) }

@@ -1,16 +1,17 @@
+//! Why the head of a request is refused.
 use http::StatusCode;
 use thiserror::Error;
 
-/// Why no request begins at the front of some bytes: the first fault of its head, in this order.
+/// Why no request stands at the front of some bytes: the first of these faults that its head has.
 #[derive(Clone, Copy, Debug, PartialEq, Eq, Error)]
 pub enum HeadFault {
-    /// No head begins so (RFC 9112, sections 2 to 5).
+    /// The bytes begin no head (RFC 9112, sections 2 to 5).
     #[error("BadHead")]
     BadHead,
-    /// The first 8,192 bytes hold no whole head, or it has more than 64 fields.
+    /// The first 8,192 bytes hold no whole head, or the head has more than 64 fields.
     #[error("HeadTooLarge")]
     HeadTooLarge,
-    /// HTTP/1.1 without exactly one Host field (section 3.2).
+    /// The version is HTTP/1.1, and there isn't exactly one Host field (section 3.2).
     #[error("BadHost")]
     BadHost,
     /// The method isn't GET.
@@ -25,7 +26,7 @@ impl HeadFault {
     ghost use Rattle.std.specs.Prelude.{◌≡◌};
     ghost use Rattle.ll_wire.specs.Response.{head_status, head_fault_name};
 
-    /// The HTTP status of the answer.
+    /// Returns the HTTP status of the answer.
     pub fn status(self) -> StatusCode
         ensures { result ≡ head_status self }
     {
@@ -36,7 +37,7 @@ impl HeadFault {
         }
     }
 
-    /// The name that players read.
+    /// Returns the name that the answer's body spells.
     pub fn name(self) -> &'static str
         ensures { result.now ≡ head_fault_name self }
     {

@@ -1,4 +1,4 @@
-//! What the fields of a head say.
+//! What a head's fields say of the host, of a body and of the connection (RFC 9112, sections 3.2, 6 and 9).
 ghost use Rattle.std.specs.Prelude.{◌≡◌, All, length, map, count_by};
 ghost use Rattle.std.specs.List.{list_any};
 ghost use Rattle.ll_attr.specs.Words.{pieces_at};
@@ -14,7 +14,7 @@ fn is_host(bytes: &[u8], field: HeaderSpan) -> bool
     field.name.of(bytes).eq_ignore_ascii_case(b"Host")
 }
 
-/// Whether a field says that a body follows.
+/// Returns whether `field` says that a body follows.
 fn tells_body(bytes: &[u8], field: HeaderSpan) -> bool
     requires { IsHeaderWithin (length bytes.now) field }
     ensures { result ≡ spec.tells_body (header_bytes bytes.now field) }
@@ -27,7 +27,7 @@ fn tells_body(bytes: &[u8], field: HeaderSpan) -> bool
     }
 }
 
-/// Whether a field says that the connection is closed after the answer.
+/// Returns whether `field` says that the connection is closed after the answer.
 fn tells_close(bytes: &[u8], field: HeaderSpan) -> bool
     requires { IsHeaderWithin (length bytes.now) field }
     ensures { result ≡ spec.tells_close (header_bytes bytes.now field) }
@@ -35,21 +35,21 @@ fn tells_close(bytes: &[u8], field: HeaderSpan) -> bool
     field.name.of(bytes).eq_ignore_ascii_case(b"Connection") && has_close(field.value.of(bytes))
 }
 
-/// Whether the token `close` is a member of a list.
+/// Returns whether the comma-separated list `value` has the token `close`.
 fn has_close(value: &[u8]) -> bool
     ensures { result ≡ list_any spec.is_close (pieces_at 44 value.now) }
 {
     value.split(|b| *b == b',').any(|member| is_close(member))
 }
 
-/// Whether a list's member is the token `close`, in either case of letters.
+/// Returns whether `member` is the token `close`, in either case of letters.
 fn is_close(member: &[u8]) -> bool
     ensures { result ≡ spec.is_close member.now }
 {
     member.trim_ascii().eq_ignore_ascii_case(b"close")
 }
 
-/// How many fields are named Host.
+/// Returns the number of fields named Host.
 pub(crate) fn hosts(bytes: &[u8], fields: &[HeaderSpan]) -> usize
     requires { All (IsHeaderWithin (length bytes.now)) fields.now }
     ensures { result ≡ count_by spec.is_host (map (header_bytes bytes.now) fields.now) }
@@ -63,7 +63,7 @@ pub(crate) fn hosts(bytes: &[u8], fields: &[HeaderSpan]) -> usize
     count
 }
 
-/// Whether a field says that the connection is closed after the answer.
+/// Returns whether one of `fields` says that the connection is closed after the answer.
 pub(crate) fn any_tells_close(bytes: &[u8], fields: &[HeaderSpan]) -> bool
     requires { All (IsHeaderWithin (length bytes.now)) fields.now }
     ensures { result ≡ list_any spec.tells_close (map (header_bytes bytes.now) fields.now) }
@@ -76,7 +76,7 @@ pub(crate) fn any_tells_close(bytes: &[u8], fields: &[HeaderSpan]) -> bool
     false
 }
 
-/// Whether a field says that a body follows.
+/// Returns whether one of `fields` says that a body follows.
 pub(crate) fn any_tells_body(bytes: &[u8], fields: &[HeaderSpan]) -> bool
     requires { All (IsHeaderWithin (length bytes.now)) fields.now }
     ensures { result ≡ list_any spec.tells_body (map (header_bytes bytes.now) fields.now) }

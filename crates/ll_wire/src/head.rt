@@ -1,4 +1,4 @@
-//! The head of a request at the front of some bytes.
+//! Parses the head of a request at the front of a connection's bytes (RFC 9112, sections 2 to 5).
 ghost use Rattle.std.specs.Prelude.{◌≡◌, ◌<◌, ◌≤◌, All, length, map, take};
 ghost use Rattle.httparse.specs.Grammar.{NeverHasRequest};
 ghost use Rattle.httparse.specs.Spans.{RequestOverflows, IsHeaderWithin, span_bytes, header_bytes};
@@ -12,39 +12,39 @@ use http::Method;
 use httparse::spans::{EMPTY_HEADER_SPAN, HeaderSpan, RequestSpans, parse_request};
 use httparse::{Error, Status};
 
-/// The most bytes of a head.
+/// The most bytes of a head, empty lines before it counted.
 const MOST_BYTES: usize = 8192;
 
 /// The most fields of a head.
 const MOST_FIELDS: usize = 64;
 
-/// What the head of a GET request says. The places count from the first byte that was looked at.
+/// What the head of a GET request says. Its offsets count from the first of the bytes that were parsed.
 #[derive(Clone, Copy, Debug, PartialEq, Eq)]
 pub struct Request {
-    /// Where its target begins.
+    /// The offset of its target's first byte.
     pub from: usize,
-    /// Where its target ends.
+    /// The offset after its target.
     pub to: usize,
-    /// Whether the connection is kept after the answer (RFC 9112, section 9.3): the version is 1.1, and no Connection field has
-    /// the token `close`.
+    /// Whether the connection is kept after the answer (RFC 9112, section 9.3): the version is HTTP/1.1, and no Connection field
+    /// has the token `close`.
     pub keep: bool,
 }
 
 /// What stands at the front of a connection's bytes.
 #[derive(Clone, Copy, Debug, PartialEq, Eq)]
 pub enum Head {
-    /// A head of so many bytes, empty lines before it counted, and its request.
+    /// A whole head: its number of bytes, empty lines before it counted, and its request.
     Whole(usize, Request),
-    /// Less than a head: more bytes have to come.
+    /// Less than a head: more bytes are needed.
     Part,
-    /// No request begins so.
+    /// The fault for which these bytes are refused.
     Bad(HeadFault),
 }
 
-/// As many fields as the most bytes can have: each takes three bytes at least.
+/// The most fields that 8,192 bytes can hold: each takes at least three bytes.
 const ANY_FIELDS: usize = 2731;
 
-/// The bytes that are looked at.
+/// Returns the first 8,192 bytes, which alone are parsed.
 fn front(bytes: &[u8]) -> &[u8]
     ensures { result.now ≡ take 8192 bytes.now }
 {
@@ -55,7 +55,7 @@ fn front(bytes: &[u8]) -> &[u8]
     }
 }
 
-/// What bytes come to in which a head is not at its end.
+/// Returns the result for `bytes` in which a head hasn't ended.
 fn unfinished(bytes: &[u8]) -> Head
     ensures value { head_value bytes.now result ≡ unfinished bytes.now }
     ensures within { LiesIn bytes.now result }
@@ -67,8 +67,8 @@ fn unfinished(bytes: &[u8]) -> Head
     }
 }
 
-/// What bytes come to whose first bytes no head begins with. A target that is not at its end is unfinished, whatever its bytes:
-/// whether they are text shows only at its end.
+/// Returns the result for `bytes` whose prefix `start` begins no head. If it ends in a target, that is unfinished, whatever
+/// its bytes: whether they are UTF-8 is judged at the target's end.
 fn malformed(bytes: &[u8], start: &[u8]) -> Head
     requires front { start.now ≡ take 8192 bytes.now }
     requires never { NeverHasRequest start.now }
@@ -82,8 +82,9 @@ fn malformed(bytes: &[u8], start: &[u8]) -> Head
     }
 }
 
-/// What bytes come to whose first bytes may have a head with too many fields. They are parsed once more with room for all of
-/// them, so that a malformed head is BadHead however many fields it has. That room is large, so it is taken here alone.
+/// Returns the result for `bytes` whose prefix `start` has more than 64 fields, if it begins a head at all. Parses it once
+/// more with room for all of them, so that a malformed head is BadHead however many it has. Only this function takes that
+/// much stack.
 #[inline(never)]
 fn many_fields(bytes: &[u8], start: &[u8]) -> Head
     requires front { start.now ≡ take 8192 bytes.now }
@@ -102,7 +103,7 @@ fn many_fields(bytes: &[u8], start: &[u8]) -> Head
     }
 }
 
-/// What a whole head asks for.
+/// Returns the request of a whole head, or its first fault.
 fn judge(bytes: &[u8], fields: &[HeaderSpan], spans: RequestSpans) -> Head
     requires len { spans.len ≤ length bytes.now }
     requires some { 0 < spans.len }
@@ -132,8 +133,7 @@ fn judge(bytes: &[u8], fields: &[HeaderSpan], spans: RequestSpans) -> Head
     Head::Whole(spans.len, request)
 }
 
-/// What stands at the front of a connection's bytes: a head (RFC 9112, sections 2 to 5) and what it says, less than a head, or
-/// the first fault. No more than 8,192 bytes are looked at. It takes no memory.
+/// Parses the head at the front of `bytes`, of which it looks at the first 8,192 at most.
 pub fn next_head(bytes: &[u8]) -> Head
     ensures value { head_value bytes.now result ≡ head_of bytes.now }
     ensures within { LiesIn bytes.now result }

@@ -1,4 +1,4 @@
-//! The heads of HTTP/1.1 requests, and responses (RFC 9112). Nothing here knows of connections.
+//! HTTP/1.1 messages (RFC 9112): parses the heads of requests, and writes responses. Connections are the work of `ll_session`.
 #![tactic(auto)]
 
 mod answer;
@@ -13,7 +13,7 @@ mod place;
 mod slices;
 
 pub use answer::Answer;
-pub use body::{Body, Message};
+pub use body::{Body, Response};
 pub use fault::HeadFault;
 pub use head::{Head, Request, next_head};
 pub use laws::{grammar_law, heads_stay_law, media_law};

@@ -1,4 +1,4 @@
-//! Media in responses.
+//! The body of a response with media, and how such a response is recognized.
 ghost use Rattle.std.specs.Prelude.{◌≡◌, ◌++◌, ◌<◌, ◌^◌, IfOk, OnOk, drop, length};
 ghost use Rattle.std.specs.List.{concat};
 ghost use Rattle.ll_wire.specs.Response as spec;
@@ -8,10 +8,10 @@ use ll_store::Blocks;
 use std::alloc::{AllocError, Global};
 use std::marker::Model;
 
-/// No memory holds as many bytes.
+/// A number of bytes that no memory holds.
 const TOO_MANY: u64 = 1 << 63;
 
-/// The bytes of media that follow a head. They stand in blocks that are shared with all others who hold them.
+/// The body of a response with media, in blocks shared with all others who hold them.
 #[derive(Drop)]
 pub struct MediaBody {
     blocks: Vec<SharedBytes>,
@@ -30,7 +30,7 @@ impl Model for MediaBody {
 }
 
 impl MediaBody {
-    /// Another holder of these bytes. It fails if no memory is found, or if the bytes of a part aren't known.
+    /// Returns a body that shares the blocks of `media`. Fails also if the bytes of a part aren't known.
     pub(crate) fn new(alloc: Global, media: &Blocks) -> Result<MediaBody, AllocError>
         ensures { IfOk result (λ body. body ≡ media.now) }
     {
@@ -42,7 +42,7 @@ impl MediaBody {
         Ok(MediaBody { blocks, size })
     }
 
-    /// How many bytes there are.
+    /// Returns its number of bytes.
     pub(crate) fn len(&self) -> usize
         ensures length { result ≡ length self.now }
         ensures few { result < 2 ^ 63 }
@@ -50,7 +50,7 @@ impl MediaBody {
         self.size as usize
     }
 
-    /// What follows the first bytes, of which there are so many: bytes that lie together, and then blocks.
+    /// Returns what follows the first `n` bytes: a slice, and the blocks after it.
     #[tactic(auto, using(crate::proofs::BlockLemmas::in_block, crate::proofs::BlockLemmas::after_block))]
     pub(crate) fn after(&self, n: usize) -> (&[u8], &[SharedBytes])
         ensures { result.0.now ++ concat result.1.now ≡ drop n self.now }
@@ -68,7 +68,7 @@ impl MediaBody {
     }
 }
 
-/// The block of each part.
+/// Returns the block of each of `parts`.
 fn blocks_of(alloc: Global, parts: &[Media]) -> Result<Vec<SharedBytes>, AllocError>
     ensures { IfOk result (λ blocks. blocks.items ≡ parts.now) }
 {
@@ -79,7 +79,7 @@ fn blocks_of(alloc: Global, parts: &[Media]) -> Result<Vec<SharedBytes>, AllocEr
     Ok(blocks)
 }
 
-/// The block of a part. It fails where only the number of its bytes is known, too.
+/// Returns the block of `part`. Fails also if only the number of its bytes is known.
 fn block_of(part: &Media) -> Result<SharedBytes, AllocError>
     ensures { IfOk result (λ block. block ≡ part.now) }
 {
@@ -89,7 +89,7 @@ fn block_of(part: &Media) -> Result<SharedBytes, AllocError>
     }
 }
 
-/// Whether a response that begins with these bytes is one with media.
+/// Returns whether a response that begins with `bytes` is one with media.
 #[tactic(auto, unfolding(crate::specs::Response::is_media_response))]
 pub fn is_media_response(bytes: &[u8]) -> bool
     ensures { result ≡ spec.is_media_response bytes.now }

@@ -1,4 +1,4 @@
-//! The bytes of an answer.
+//! Writes the response with an answer (RFC 9112, section 4).
 ghost use Rattle.std.specs.Prelude.{◌≡◌, ◌++◌, IfOk, OnOk, string_bytes};
 ghost use Rattle.http.specs.StatusCode.{IsStatusCode};
 ghost use Rattle.ll_page.specs.Page.{page_text};
@@ -6,7 +6,7 @@ ghost use Rattle.ll_wire.specs.Parts.{bytes_of};
 ghost use Rattle.ll_wire.specs.Response as spec;
 
 use crate::answer::Answer;
-use crate::body::{Body, Message};
+use crate::body::{Body, Response};
 use crate::media::MediaBody;
 use http::StatusCode;
 use ll_page::Page;
@@ -14,13 +14,12 @@ use ll_store::Blocks;
 use ll_verdict::Reply;
 use std::alloc::{AllocError, Global};
 
-/// Memory for the head of a response: none is longer.
+/// The capacity in bytes for the head of a response: none is longer.
 const HEAD: usize = 256;
 
-/// The response with this answer (RFC 9112, section 4), which tells whether the connection is kept. Its body is the playlist or the media, which
-/// it shares with the answer, or the name of the refusal and LF. It fails if no memory is found, or if the bytes
-/// of media aren't known.
-pub fn response(alloc: Global, answer: &Answer, keep: bool) -> Result<Message, AllocError>
+/// Returns the response with `answer` (RFC 9112, section 4). It says by `keep` whether the connection is kept; its body is the
+/// playlist or the media, shared with `answer`, or the name of the refusal and LF. Fails also if the bytes of media aren't known.
+pub fn response(alloc: Global, answer: &Answer, keep: bool) -> Result<Response, AllocError>
     ensures { IfOk result (λ message. bytes_of message ≡ spec.response_bytes answer.now keep) }
 {
     match answer {
@@ -33,8 +32,8 @@ pub fn response(alloc: Global, answer: &Answer, keep: bool) -> Result<Message, A
     }
 }
 
-/// The response with what a channel gives.
-fn reply_response(alloc: Global, reply: &Reply, keep: bool) -> Result<Message, AllocError>
+/// Returns the response with the reply of a channel.
+fn reply_response(alloc: Global, reply: &Reply, keep: bool) -> Result<Response, AllocError>
     ensures { IfOk result (λ message. bytes_of message ≡ spec.reply_bytes reply.now keep) }
 {
     match reply {
@@ -46,42 +45,47 @@ fn reply_response(alloc: Global, reply: &Reply, keep: bool) -> Result<Message, A
     }
 }
 
-/// The response with a playlist, whose text it shares.
-fn playlist(alloc: Global, page: &Page, keep: bool) -> Result<Message, AllocError>
+/// Returns the response with a playlist, whose text it shares.
+fn playlist(alloc: Global, page: &Page, keep: bool) -> Result<Response, AllocError>
     ensures { IfOk result (λ message. bytes_of message ≡ spec.message 200 (page_text page.now) keep) }
 {
     let head = head(alloc, StatusCode::OK, page.text().len(), keep)?;
-    Ok(Message {
+    Ok(Response {
         head: head.into_bytes(),
         body: Body::Playlist(page.shared_text()?),
     })
 }
 
-/// The response with media, whose blocks it shares.
-fn media(alloc: Global, bytes: &Blocks, keep: bool) -> Result<Message, AllocError>
+/// Returns the response with media, whose blocks it shares.
+fn media(alloc: Global, bytes: &Blocks, keep: bool) -> Result<Response, AllocError>
     ensures { IfOk result (λ message. bytes_of message ≡ spec.media_message bytes.now keep) }
 {
     let head = media_head(alloc, bytes.len(), keep)?;
-    Ok(Message {
+    Ok(Response {
         head: head.into_bytes(),
         body: Body::Media(MediaBody::new(alloc, bytes)?),
     })
 }
 
-/// The response with a refusal of this name.
-fn refusal(alloc: Global, status: StatusCode, name: &str, keep: bool) -> Result<Message, AllocError>
+/// Returns the response with a refusal, whose body is `name` and LF.
+fn refusal(
+    alloc: Global,
+    status: StatusCode,
+    name: &str,
+    keep: bool,
+) -> Result<Response, AllocError>
     ensures { IfOk result (λ message. bytes_of message ≡ spec.message status (spec.named name.now) keep) }
 {
     let mut text = head(alloc, status, name.len() + 1, keep)?;
     text.push_str(name)?;
     text.push_str("\n")?;
-    Ok(Message {
+    Ok(Response {
         head: text.into_bytes(),
         body: Body::Nothing,
     })
 }
 
-/// All that stands before a body of this length.
+/// Returns all lines before a body of `length` bytes.
 fn head(alloc: Global, status: StatusCode, length: usize, keep: bool) -> Result<String, AllocError>
     ensures { IfOk result (λ text. string_bytes text ≡ spec.lines status length keep) }
 {
@@ -90,7 +94,7 @@ fn head(alloc: Global, status: StatusCode, length: usize, keep: bool) -> Result<
     Ok(text)
 }
 
-/// All that stands before so many bytes of media.
+/// Returns all lines before `length` bytes of media.
 fn media_head(alloc: Global, length: u64, keep: bool) -> Result<String, AllocError>
     ensures { IfOk result (λ text. string_bytes text ≡ spec.media_lines length keep) }
 {
@@ -99,7 +103,7 @@ fn media_head(alloc: Global, length: u64, keep: bool) -> Result<String, AllocErr
     Ok(text)
 }
 
-/// Returns the status line and the first fields.
+/// Returns the status line, Content-Type and Content-Length.
 #[tactic(auto, unfolding(crate::specs::Response::first_lines))]
 fn first_lines(
     alloc: Global,
@@ -129,7 +133,7 @@ fn reason(status: StatusCode) -> &'static str
     }
 }
 
-/// Adds the other fields and the empty line.
+/// Adds the other fields and the empty line to `text`.
 #[tactic(auto, unfolding(crate::specs::Response::last_lines))]
 fn push_last_lines(
     text: &mut String,
@@ -145,7 +149,7 @@ fn push_last_lines(
     )
 }
 
-/// Returns the status code of this number.
+/// Returns the status code of the number `status`.
 fn code_of(status: u16) -> StatusCode
     requires { IsStatusCode status }
     ensures { result ≡ status }
@@ -156,7 +160,7 @@ fn code_of(status: u16) -> StatusCode
     }
 }
 
-/// Returns the type of the body of a response that isn't media.
+/// Returns the Content-Type of a response without media.
 fn content_type(status: StatusCode) -> &'static str
     ensures { result.now ≡ spec.content_type status }
 {
@@ -167,7 +171,7 @@ fn content_type(status: StatusCode) -> &'static str
     }
 }
 
-/// Returns the line of the methods that are allowed, if one was refused.
+/// Returns the Allow line if `status` refuses a method, and else an empty text.
 fn allow_line(status: StatusCode) -> &'static str
     ensures { result.now ≡ spec.allow_line status }
 {

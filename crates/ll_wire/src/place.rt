@@ -1,4 +1,4 @@
-//! Whether bytes end in a request's target.
+//! Decides whether bytes end inside a request's target.
 ghost use Rattle.std.specs.Prelude.{◌≡◌, if◌then◌else◌};
 ghost use Rattle.ll_wire.specs.Reading.{read};
 ghost use Rattle.ll_wire.specs.Heads.{is_in_target};
@@ -7,20 +7,20 @@ ghost use Rattle.ll_wire.specs.declared.place.Place.TheVariants as Place;
 
 use httparse::{is_method_token, is_uri_token};
 
-/// Where the bytes so far end.
+/// Where in a request line the bytes read so far end.
 #[derive(Clone, Copy)]
 pub(crate) enum Place {
-    /// In the empty lines before a request line.
+    /// In the empty lines before it.
     Blank,
-    /// Behind the CR of such a line.
+    /// After the CR of such a line.
     BlankReturn,
     Method,
     Target,
-    /// Behind the target, or where no head begins so.
+    /// After the target, or after a byte that no head has there.
     Past,
 }
 
-/// The place one byte further.
+/// Returns the place one byte after `place`, that byte being `b`.
 fn next(place: Place, b: u8) -> Place
     ensures { result ≡ next_place place b }
 {
@@ -39,7 +39,7 @@ fn next(place: Place, b: u8) -> Place
     }
 }
 
-/// The place after the first byte of a line that stands before the method, or is its first.
+/// Returns the place after `b`, the first byte of a line: an empty line, or the method's.
 fn after_blank(b: u8) -> Place
     ensures { result ≡ next_place Place.Blank b }
 {
@@ -58,7 +58,7 @@ fn go_if(fits: bool, place: Place) -> Place
     if fits { place } else { Place::Past }
 }
 
-/// Whether the bytes end in a request's target: in empty lines, a method, a space, and bytes that may stand in a target.
+/// Returns whether `bytes` are any empty lines, a method, a space, and bytes that are allowed in a target.
 pub(crate) fn ends_in_target(bytes: &[u8]) -> bool
     ensures { result ≡ is_in_target (read bytes.now) }
 {

@@ -1,4 +1,4 @@
-//! Bytes that lie apart.
+//! Bytes of a response in several slices, none of them copied.
 ghost use Rattle.std.specs.Prelude.{◌≡◌, ◌++◌, OnOk, length};
 ghost use Rattle.std.specs.List.{concat};
 
@@ -6,7 +6,7 @@ use ll_item::SharedBytes;
 use std::alloc::AllocError;
 use std::marker::Model;
 
-/// Bytes of a response, in pieces that lie apart.
+/// Bytes of a response: a slice of the head, one of the body, and the body's blocks after it.
 #[derive(Drop)]
 pub struct Slices<'a> {
     pub(crate) head: &'a [u8],
@@ -27,21 +27,21 @@ impl<'a> Model for Slices<'a> {
 }
 
 impl<'a> Slices<'a> {
-    /// How many bytes there are.
+    /// Returns their number.
     pub fn len(&self) -> usize
         ensures { result ≡ length self.now }
     {
         self.size
     }
 
-    /// The pieces: of the head, of the body, and the blocks of the body after these, one after another.
+    /// Returns the slices in order: of the head, of the body, and the body's blocks after it.
     pub fn pieces(&self) -> (&'a [u8], &'a [u8], &'a [SharedBytes])
         ensures { result.0.now ++ (result.1.now ++ concat result.2.now) ≡ self.now }
     {
         (self.head, self.body, self.blocks)
     }
 
-    /// Adds a copy of the bytes.
+    /// Adds a copy of the bytes to `text`. Some may have been added if it fails.
     pub fn copy_to(&self, text: &mut Vec<u8>) -> Result<(), AllocError>
         ensures { OnOk result (text.new.items ≡ text.old.items ++ self.now) }
     {
@@ -51,7 +51,7 @@ impl<'a> Slices<'a> {
     }
 }
 
-/// Adds these blocks.
+/// Adds a copy of `blocks` to `text`.
 fn push_blocks(text: &mut Vec<u8>, blocks: &[SharedBytes]) -> Result<(), AllocError>
     ensures { OnOk result (text.new.items ≡ text.old.items ++ concat blocks.now) }
 {

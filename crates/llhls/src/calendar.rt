@@ -11,12 +11,12 @@ use std::time::Clock;
 #[derive(Drop)]
 pub(crate) struct SystemCalendar<'a, R, L: Ledger> {
     rt: &'a R,
-    /// Readings that went well, and readings that failed.
+    /// The number of readings that succeeded, and of those that failed.
     readings: TwoCounts<L>,
 }
 
 impl<'a, R, L: Ledger> SystemCalendar<'a, R, L> {
-    /// The blank is one of two parts.
+    /// Returns a clock that wasn't read yet. `blank` has two parts, one for each count.
     pub(crate) fn new(rt: &'a R, blank: Blank) -> SystemCalendar<'a, R, L>
         requires name { blank.name ≡ L.name }
         requires parts { blank.parts ≡ L.parts }

@@ -1,6 +1,7 @@
-//! `llhls`: an origin for Low-Latency HLS. `llhls serve SETTINGS` serves publishers and players over TCP, `llhls replay` replays a
-//! script, `llhls check FILE` checks the record of a channel, `llhls upgrade FILE` writes it in format 2, `llhls explain FILE` tells what it holds, `llhls apply BASE DELTA` applies a
-//! delta update to a playlist, `llhls push ADDRESS CHANNEL RENDITION part=US segment=US [most=US] [ahead=no] [retry=S] [end]` publishes what an encoder writes.
+//! `llhls`, an origin for Low-Latency HLS. `llhls serve SETTINGS` serves publishers and players over TCP; `llhls push ADDRESS CHANNEL
+//! RENDITION part=US segment=US [most=US] [ahead=no] [retry=S] [end]` publishes what an encoder writes; `llhls replay` runs a script;
+//! `llhls check FILE` checks the record of a channel, `llhls upgrade FILE` writes it in format 2, and `llhls explain FILE [ENTRY]`
+//! summarizes it or explains an entry; `llhls apply BASE DELTA` applies a delta update to a playlist.
 #![tactic(auto)]
 
 ghost use Rattle.std.specs.Prelude.{◌≡◌, IfErr};
@@ -51,20 +52,20 @@ fn main(rt: HostRuntime) -> ExitCode {
     }
 }
 
-/// The exit status where a record isn't right.
+/// The exit status if a record isn't right.
 const BAD_RECORD: u8 = 3;
 
-/// The exit status where an origin refuses what was to be published.
+/// The exit status if an origin refuses what is published.
 const REFUSED: u8 = 3;
 
-/// What comes of what the program was called to do.
+/// How a command ended, or what is left of it for `main` to do.
 enum Ending {
     Done,
-    /// What the program writes to standard output tells how a record isn't right.
+    /// A record isn't right: how is written to standard output.
     BadRecord,
-    /// What was to be published was refused: the origin's answer.
+    /// An origin refused what was published, with this answer.
     Refused(Text),
-    /// A server is to run with these settings: `main` alone has the handle that starts threads.
+    /// A server is to run with this settings file: only `main` has the handle that starts threads.
     Serve(Vec<u8>),
 }
 
@@ -97,7 +98,7 @@ fn called(rt: &HostRuntime) -> Result<Ending, Fault> {
     }
 }
 
-/// Writes the playlist that a delta update makes of its base.
+/// Writes the playlist that results from applying the delta update in the file `delta` to the one in the file `base`.
 fn apply(rt: &HostRuntime, base: &str, delta: &str) -> Result<Ending, Fault> {
     let base = read_file(rt, base)?;
     let delta = read_file(rt, delta)?;
@@ -105,35 +106,35 @@ fn apply(rt: &HostRuntime, base: &str, delta: &str) -> Result<Ending, Fault> {
     Ok(Ending::Done)
 }
 
-/// Writes how many entries a record has, or how it isn't right.
+/// Writes how many entries the record in a file has, or how it isn't right.
 fn check(rt: &HostRuntime, path: &str) -> Result<Ending, Fault> {
     let record = read_file(rt, path)?;
     let right = write_checked(rt.alloc(), &record, &mut rt.stdout())?;
     Ok(ending_of(right))
 }
 
-/// Writes a record in format 2, or how it isn't right.
+/// Writes the record in a file in format 2, or how it isn't right.
 fn upgrade(rt: &HostRuntime, path: &str) -> Result<Ending, Fault> {
     let record = read_file(rt, path)?;
     let right = write_upgraded(rt.alloc(), &record, &mut rt.stdout())?;
     Ok(ending_of(right))
 }
 
-/// Writes what a record holds, or how it isn't right.
+/// Writes a summary of the record in a file, or how it isn't right.
 fn summarize(rt: &HostRuntime, path: &str) -> Result<Ending, Fault> {
     let record = read_file(rt, path)?;
     let right = write_summary(rt.alloc(), &record, &mut rt.stdout())?;
     Ok(ending_of(right))
 }
 
-/// Writes what happened at an entry of a record, or how the record isn't right.
+/// Writes what happened at an entry of the record in a file, or how the record isn't right.
 fn explain(rt: &HostRuntime, path: &str, entry: u64) -> Result<Ending, Fault> {
     let record = read_file(rt, path)?;
     let right = write_explained(rt.alloc(), &record, entry, &mut rt.stdout())?;
     Ok(ending_of(right))
 }
 
-/// What comes of a record that is right, or isn't.
+/// Returns the ending for a record that is `right`, or isn't.
 fn ending_of(right: bool) -> Ending {
     if right {
         Ending::Done
@@ -142,7 +143,7 @@ fn ending_of(right: bool) -> Ending {
     }
 }
 
-/// Publishes what an encoder writes to standard input.
+/// Publishes what an encoder writes to standard input. An `address` that can't be parsed is wrong usage.
 fn publish_input(
     rt: &HostRuntime,
     address: &str,
@@ -158,7 +159,7 @@ fn publish_input(
     }
 }
 
-/// Runs the script on standard input; its answers go to standard output.
+/// Runs the script on standard input, and writes its answers to standard output.
 fn replay<L: Ledger, M: Ledger>(rt: &HostRuntime, reads: Blank, writes: Blank) -> Result<(), Fault>
     requires reads_name { reads.name ≡ L.name }
     requires reads_parts { reads.parts ≡ L.parts }
@@ -173,7 +174,7 @@ fn replay<L: Ledger, M: Ledger>(rt: &HostRuntime, reads: Blank, writes: Blank) -
     run_script(rt.alloc(), &mut source, &mut sink)
 }
 
-/// All bytes of a file.
+/// Returns all bytes of a file.
 fn read_file(rt: &HostRuntime, path: &str) -> Result<Vec<u8>, Fault> {
     match fs::read(rt, path) {
         Ok(bytes) => Ok(bytes),

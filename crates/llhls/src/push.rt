@@ -1,4 +1,4 @@
-//! Publishing what an encoder writes to standard input.
+//! Publishes what an encoder writes to standard input, and shows how that goes on.
 ghost use Rattle.std.specs.Prelude.{◌≡◌};
 
 use crate::calendar::SystemCalendar;
@@ -11,7 +11,7 @@ use std::net::SocketAddrV4;
 use std::sync::ledger::{Blank, Ledger};
 use std::time::{Clock, Duration, Instant, SystemTime, UNIX_EPOCH};
 
-/// What was published, and when that was shown last.
+/// What was published so far, and when that was last shown.
 #[derive(Drop)]
 struct Meter<'a, R> {
     rt: &'a R,
@@ -19,19 +19,20 @@ struct Meter<'a, R> {
     shown: bool,
     parts: u64,
     segments: u64,
-    /// How long the parts are, in microseconds.
+    /// The total duration of the parts, in microseconds.
     micros: u64,
     /// The rendition's time after what was accepted last, in microseconds since 1970, once it is known.
     time: Option<u64>,
-    /// The bytes since it was shown last.
+    /// The number of bytes since it was last shown.
     bytes: u64,
+    /// When it was last shown; at first when it began.
     last: Option<Instant>,
-    /// Whether the cursor stands after what was shown.
+    /// Whether the cursor stands at the end of what was shown.
     after: bool,
 }
 
 impl<'a, R: Eprint + Clock> Meter<'a, R> {
-    /// Nothing was published so far.
+    /// Returns a meter of a stream of which nothing was published yet.
     fn new(rt: &'a R, shown: bool) -> Meter<'a, R> {
         Meter {
             rt,
@@ -61,7 +62,7 @@ impl<'a, R: Eprint + Clock> Meter<'a, R> {
         }
     }
 
-    /// Shows what was published, where a second has gone by since that was shown.
+    /// Shows what was published, if a second has gone by since that was last shown.
     fn show(&mut self) {
         let Some(last) = self.last else { return };
         let Ok(time) = last.elapsed(self.rt) else {
@@ -83,13 +84,13 @@ impl<'a, R: Eprint + Clock> Meter<'a, R> {
         self.last = Instant::now(self.rt).ok();
     }
 
-    /// Returns how many milliseconds ago the last part that was accepted had its end, by its program time; 0 if that isn't over.
+    /// Returns how many milliseconds ago the last part that was accepted ended, by its program time, or 0 if that lies ahead.
     fn delay(&self) -> u64 {
         let Some(time) = self.time else { return 0 };
         millis(self.rt).unwrap_or(0).saturating_sub(time / 1_000)
     }
 
-    /// What is told next stands on a line of its own.
+    /// Ends the line that was shown, if there is one, so that what follows has a line of its own.
     fn end_line(&mut self) {
         if self.after {
             self.after = false;
@@ -98,7 +99,7 @@ impl<'a, R: Eprint + Clock> Meter<'a, R> {
     }
 }
 
-/// Returns the milliseconds since 1970, if the clock can be read.
+/// Returns the milliseconds since 1970, or `None` if the clock can't be read.
 pub(crate) fn millis<R: Clock>(rt: &R) -> Option<u64> {
     let since = SystemTime::now(rt).ok()?.duration_since(UNIX_EPOCH).ok()?;
     u64::try_from(since.as_millis()).ok()
@@ -125,7 +126,7 @@ impl<R: Eprint + Clock> Watch for Meter<'_, R> {
     }
 }
 
-/// Publishes what an encoder writes to standard input, at an address.
+/// Publishes what an encoder writes to standard input, at `address`. Each blank has two parts, one for each count.
 pub(crate) fn publish<L: Ledger, M: Ledger>(
     rt: &HostRuntime,
     address: SocketAddrV4,
@@ -150,7 +151,7 @@ pub(crate) fn publish<L: Ledger, M: Ledger>(
         lengths: plan.lengths,
         ends: plan.ends,
     };
-    // A connection on which nothing is accepted takes half a second at least.
+    // Each further connection takes at least half a second, so as many idle ones in a row as this take about `retry` seconds or more.
     let tries = plan.retry.saturating_mul(2);
     let done = push(
         rt.alloc(),

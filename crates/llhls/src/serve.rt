@@ -1,4 +1,4 @@
-//! The server.
+//! Runs the server: serves players and publishers, and keeps the channels' time, records and numbers.
 ghost use Rattle.std.specs.Prelude.{◌≡◌, ◌≤◌, ◌^◌, length};
 
 use ll_command::Fault;
@@ -6,8 +6,8 @@ use ll_device::Door;
 use ll_format::UtcTime;
 use ll_hub::{Blanks, Clock, Hub, HubFault, Ledgers, Pass, Sink};
 use ll_item::Settings;
-use ll_link::{Role, serve_links, serve_players};
-use ll_server::{Config, ConfigFault, Log, Numbers, Records, Workers};
+use ll_serve::{Role, serve_links, serve_players};
+use ll_server::{CHANNELS, Config, ConfigFault, Log, Numbers, Records, Workers};
 use std::alloc::{AllocError, Global};
 use std::fs::File;
 use std::marker::Brand;
@@ -18,20 +18,17 @@ use std::thread::Threads;
 use std::time::{Duration, Instant, SystemTime, UNIX_EPOCH};
 use std::{thread, time};
 
-/// How often the channels are told the time, in milliseconds.
+/// The time between two readings of the clock that the channels take, in milliseconds.
 const TICK: u64 = 250;
 
-/// After so many times the records are handed out, where they are kept: every 10 seconds. What wasn't handed out when the server is
-/// stopped is lost.
+/// The number of readings after which the records are handed out, if they are kept: every 10 seconds. What wasn't handed out when the
+/// server stops is lost.
 const TICKS: u64 = 40;
 
-/// After records were handed out so often the numbers of the channels are written, where they are kept: every minute.
+/// The number of hand-outs after which the numbers of the channels are written, if they are kept: every minute.
 const ROUNDS: u64 = 6;
 
-/// The most channels of a server.
-const CHANNELS: usize = 1_024;
-
-/// The time since the server's start.
+/// A clock that shows the time since the server's start.
 #[derive(Drop)]
 struct Watch<'a, R> {
     rt: &'a R,
@@ -41,7 +38,7 @@ struct Watch<'a, R> {
 impl<R: time::Clock> Clock for Watch<'_, R> {
     ghost shows = { λ w ms. ms ≤ 2 ^ 60 };
 
-    /// A clock that can't be read shows 0, which changes no channel's time.
+    /// Returns the milliseconds since the start, at most 2^60. If the clock can't be read, it is 0, which changes no channel's time.
     fn now(&self) -> u64 {
         match self.start.elapsed(self.rt) {
             Ok(time) => time.as_millis().min(1 << 60) as u64,
@@ -62,7 +59,7 @@ struct Server<'a, R> {
     workers: Workers,
 }
 
-/// Serves players and publishers of the channels that a settings file tells, until it is stopped.
+/// Serves players and publishers of the channels of the settings file `settings`, until it is stopped.
 pub(crate) fn serve<
     R: Net<Listener = TcpListener, Stream = TcpStream>
         + Files<File = File>
@@ -85,7 +82,7 @@ pub(crate) fn serve<
     )
 }
 
-/// What a settings file tells.
+/// Reads a settings file.
 fn read_config(alloc: Global, settings: &[u8]) -> Result<Config, Fault> {
     match Config::read(alloc, settings) {
         Ok(config) => Ok(config),
@@ -94,7 +91,7 @@ fn read_config(alloc: Global, settings: &[u8]) -> Result<Config, Fault> {
     }
 }
 
-/// The door at this address.
+/// Listens at `address`.
 fn open_door<'a, R: Net<Listener = TcpListener, Stream = TcpStream>>(
     rt: &'a R,
     address: SocketAddrV4,
@@ -106,7 +103,7 @@ fn open_door<'a, R: Net<Listener = TcpListener, Stream = TcpStream>>(
     }
 }
 
-/// A server of these settings, with its files. Its time starts now.
+/// Returns a server with the settings `config`, whose files it opens. Its time starts now.
 fn open_server<'a, R: Files<File = File> + Eprint + time::Clock>(
     rt: &'a R,
     alloc: Global,
@@ -121,7 +118,7 @@ fn open_server<'a, R: Files<File = File> + Eprint + time::Clock>(
     }
 }
 
-/// A server of these settings, with its files, whose time started then.
+/// Returns a server with the settings `config`, whose files it opens, and whose time starts at `start`.
 fn server_from<'a, R: Files<File = File> + Eprint>(
     rt: &'a R,
     alloc: Global,
@@ -139,7 +136,7 @@ fn server_from<'a, R: Files<File = File> + Eprint>(
     })
 }
 
-/// Serves these channels, to those who come in by these doors.
+/// Serves `channels` to those who connect at the two doors.
 fn host<
     L: Ledgers + Send + Sync,
     R: Net<Listener = TcpListener, Stream = TcpStream>
@@ -200,7 +197,7 @@ impl<
         + Wait
         + Sync,
 > Server<'_, R> {
-    /// Serves those who come in by a door: the workers' passes, and why they aren't all there.
+    /// Serves those who connect at `door`. Returns the workers' passes, and the fault if they aren't all there.
     fn admit<L: Ledgers + Send + Sync>(
         &self,
         door: &mut Door<'_, R>,
@@ -243,7 +240,7 @@ impl<
         }
     }
 
-    /// Tells the channels the time, again and again, and hands their records out from time to time, where they are kept.
+    /// Passes the channels the time, again and again. Hands out their records and writes their numbers now and then, if these are kept.
     fn keep_time<L: Ledgers>(&self, hub: &Hub<L>) {
         for _ in self.rt.forever() {
             for _ in 0..ROUNDS {
@@ -254,7 +251,7 @@ impl<
         }
     }
 
-    /// Writes the numbers of all channels, where they are kept; where no memory is found for them, they are left out.
+    /// Writes the numbers of all channels, if they are kept. Leaves them out if out of memory.
     fn write_numbers(&self) {
         let Some(time) = self.time() else {
             return;
@@ -264,7 +261,7 @@ impl<
         }
     }
 
-    /// The time of day, where numbers are kept and the clock can be read.
+    /// Returns the time of day, or `None` if no numbers are kept or the clock can't be read.
     fn time(&self) -> Option<UtcTime> {
         if !self.log.is_kept() {
             return None;
@@ -274,7 +271,7 @@ impl<
         UtcTime::at(since.as_millis().min(u64::MAX as u128) as u64)
     }
 
-    /// Tells the channels the time, as often as it is told between two records.
+    /// Passes the channels the time as often as that is done between two hand-outs of the records.
     fn tick<L: Ledgers>(&self, hub: &Hub<L>) {
         for _ in 0..TICKS {
             self.tell(hub);
@@ -282,8 +279,8 @@ impl<
         }
     }
 
-    /// Tells the channels the time. One that refuses it, since its record is full or no memory is found, has its record handed out and is
-    /// told once more; if it refuses again, those after it are told all the same.
+    /// Passes the channels the time once. If one refuses it, because its record is full or it is out of memory, hands out its record and
+    /// passes it the time again; if it refuses again, goes on with those after it.
     fn tell<L: Ledgers>(&self, hub: &Hub<L>) {
         let ms = self.watch.now();
         let (mut first, mut again) = (0, None);
@@ -302,7 +299,7 @@ impl<
         }
     }
 
-    /// Hands out the record of each channel that has one.
+    /// Hands out the record of each channel, if records are kept.
     fn hand_out<L: Ledgers>(&self, hub: &Hub<L>) {
         for channel in 0..self.records.len() {
             let _ = hub.rotate_to(self.rt, channel, &mut &self.records);

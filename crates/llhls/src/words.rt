@@ -1,3 +1,4 @@
+//! The words that the program was called with.
 ghost use Rattle.std.specs.Prelude.{◌≡◌, IfOk, map, string_bytes};
 ghost use Rattle.std.specs.Vec.Iter.{into_iter_items};
 
@@ -6,7 +7,7 @@ use ll_command::{Fault, fault_of};
 use std::alloc::{AllocError, Global};
 use std::env;
 
-/// The program's words. One that is no UTF-8 is wrong usage.
+/// Returns the program's words. A word that isn't UTF-8 is wrong usage.
 pub(crate) fn words(rt: &HostRuntime) -> Result<Vec<Text>, Fault> {
     match env::args(rt) {
         Ok(args) => match texts(rt.alloc(), args) {
@@ -17,7 +18,7 @@ pub(crate) fn words(rt: &HostRuntime) -> Result<Vec<Text>, Fault> {
     }
 }
 
-/// Words as texts.
+/// Returns `args` as texts.
 fn texts(alloc: Global, args: env::Args) -> Result<Vec<Text>, AllocError>
     ensures { IfOk result (λ words. words.items ≡ map string_bytes (into_iter_items args)) }
 {

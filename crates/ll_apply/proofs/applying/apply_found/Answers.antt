@@ -1,4 +1,4 @@
--- A number is missing, or the playlists that were found come to one.
+-- A number is missing, or the playlists that were read result in one.
 use Rattle.std.proofs.Common.{sym, ◌∙◌}
 use Rattle.ll_apply.proofs.Chain.{not-recent, goes, text-of-found}
 use Rattle.ll_apply.proofs.applying.apply_found.Goals as goal

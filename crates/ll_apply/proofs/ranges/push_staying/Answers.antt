@@ -1,4 +1,4 @@
--- A turn writes the line of the date range at its place where it stays, and there is one at each place.
+-- A turn writes the line of the date range at its place if it stays, and there is one at each place.
 use Rattle.std.proofs.Common.{true, false, string_bytes, ap, sym, ◌∙◌, arith}
 use Rattle.std.proofs.lemmas.List.{append-nil}
 use Rattle.ll_apply.specs.Applied as spec

@@ -1,4 +1,4 @@
--- The map so far and the segments that are left come to the map after all of them.
+-- The map after those that are left, from the map so far, is the map after all.
 use Rattle.std.proofs.Common.{◌≡◌, drop}
 use Rattle.std.specs.Option.{option_map}
 use Rattle.ll_apply.specs.Order.{force_after}

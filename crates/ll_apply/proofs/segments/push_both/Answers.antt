@@ -1,4 +1,4 @@
--- The kept segments and then the update's, or the update's alone where none is kept.
+-- The kept segments and then the update's, or the update's alone if none is kept.
 use Rattle.std.proofs.Common.{◌++◌, true, false, map, string_bytes, ap, sym, ◌∙◌}
 use Rattle.std.proofs.lemmas.Result.{on_ok_weaker}
 use Rattle.ll_line.specs.Text.{text_of}

@@ -1,4 +1,4 @@
--- The first fault of what is left, after names of which the set holds just these, is the first fault of the text.
+-- The first fault of what is left, after the names in the set, is the first fault of the text.
 use Rattle.std.proofs.Common.{◌≡◌, [], false, length}
 use denote.Text.{Utf8}
 use denote.Shadow.{shadow}

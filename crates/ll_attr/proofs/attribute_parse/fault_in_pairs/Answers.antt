@@ -1,4 +1,4 @@
--- A part's fault is the first where no part before it had one.
+-- A part's fault is the first if no part before it had one.
 use Rattle.std.proofs.Common.{[], false, take, arith, rules}
 use Rattle.ll_attr.specs.Attributes.{parts_outside}
 use Rattle.ll_attr.specs.Reading.{fault_in, names_of_parts}

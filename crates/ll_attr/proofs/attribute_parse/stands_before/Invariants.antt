@@ -1,4 +1,4 @@
--- The name stands in the parts that are left to go over just where it stands in all of them.
+-- The name is in the parts that are left to go over exactly if it is in all of them.
 use Rattle.std.proofs.Common.{◌≡◌, false, take, bytes_eq}
 use denote.Text.{Utf8}
 use denote.Shadow.{shadow}

@@ -1,4 +1,4 @@
--- The cut stands before an ASCII byte or at the end, and the comma is taken off what stands after it.
+-- The cut is before an ASCII byte or at the end, and the comma is taken off what follows it.
 use Rattle.std.proofs.Common.{◌≡◌, ◌≢◌, ◌∙◌, ap, ℕ, false, lit<, List, [], ◌∷◌, take, drop, sym, arith, Option, Some, None, MatchOption, Bor}
 use Rattle.std.proofs.lemmas.Str.Pattern.{strip_prefix_char}
 use Rattle.std.specs.Str.{IsCharBoundary}

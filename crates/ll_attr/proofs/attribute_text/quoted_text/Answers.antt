@@ -1,4 +1,4 @@
--- Three cuts at quotation marks tell what stands between two.
+-- Three cuts at quotation marks find what is between two.
 use Rattle.std.proofs.Common.{Bool, false, ◌==◌, length}
 use Rattle.std.specs.List.{list_all}
 use Rattle.ll_attr.specs.Attributes.{is_quoted_byte}

@@ -1,4 +1,4 @@
--- Digits have no sign, so `parse` gives their value, where that fits 64 bits.
+-- Digits have no sign, so `parse` returns their value if it fits 64 bits.
 use Rattle.std.proofs.Common.{◌≡◌, ◌∙◌, true, arith}
 use Rattle.std.proofs.lemmas.Bool.Decides.{nat_tests}
 use Rattle.ll_attr.specs.Numbers.{is_digits}

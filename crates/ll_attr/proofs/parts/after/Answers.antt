@@ -1,4 +1,4 @@
--- What `strip_prefix` leaves of a text is what stands after the key.
+-- What `strip_prefix` leaves of a text is what follows the key.
 use Rattle.std.proofs.Common.{◌≡◌, ℕ, true, false, List, Option, Some, None, MatchOption, Bor, nat_eq, refl}
 use Rattle.std.proofs.lemmas.Bool.Decides.{Decides-eqb}
 use Rattle.std.proofs.lemmas.Slice.Eq.{starts_is}

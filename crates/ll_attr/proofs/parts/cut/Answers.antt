@@ -1,4 +1,4 @@
--- What `split_once` gives, in the words of the parts.
+-- The result of `split_once`, as the definition of parts states it.
 use Rattle.std.proofs.lemmas.Str.Pattern.{split_once_first}
 use Rattle.ll_attr.proofs.PartsAtCut.{parts_at-cut}
 use Rattle.ll_attr.proofs.parts.cut.Goals as goal

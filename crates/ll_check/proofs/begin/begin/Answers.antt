@@ -1,4 +1,4 @@
--- What the first three lines tell, and the chain that they begin or go on with.
+-- What the first three lines say, and the chain that they begin or go on with.
 use Rattle.std.proofs.Common.{Some, refl}
 use Rattle.ll_attr.specs.Words.{pieces_at}
 use Rattle.ll_check.proofs.StepLemmas.{begun-parts, header-wrong}

@@ -1,4 +1,4 @@
--- Three lines with an end each, and what they tell.
+-- Three lines with an end each, and what they say.
 use Rattle.std.proofs.Common.{◌∷◌, ◌∙◌, ap, sym}
 use Rattle.ll_attr.specs.Words.{pieces_at}
 use Rattle.ll_entry.proofs.ChainLemmas.{header-is, three}

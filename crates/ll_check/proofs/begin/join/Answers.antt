@@ -1,4 +1,4 @@
--- Want of memory comes after a fault of the place.
+-- Memory comes after a fault of the place.
 use Rattle.std.proofs.Common.{Err, ap}
 use Rattle.ll_check.proofs.HeaderLemmas.{place-first}
 use Rattle.ll_item.specs.Settings.{settings_in}

@@ -1,4 +1,4 @@
--- A line is the last one, or tells an entry.
+-- A line is the last one, or has an entry.
 use Rattle.std.proofs.Common.{Some, ap, refl, subst, sym, ◌∙◌}
 use Rattle.ll_attr.specs.Words.{pieces_at}
 use Rattle.ll_check.proofs.Places.{of-inside}

@@ -1,4 +1,4 @@
--- A line brings what its entry does.
+-- A line has the reply of its entry.
 use Rattle.std.proofs.Common.{ap, ◌∙◌}
 use Rattle.ll_check.proofs.ReplyLemmas.{brought-of}
 use Rattle.ll_check.specs.Found.{ChainValue}

@@ -1,3 +1,4 @@
+-- The laws have a file of their own.
 use Rattle.ll_connection.proofs.CutLemmas.{pieces, turns}
 use Rattle.ll_connection.proofs.laws.pieces_law.Goals as goal
 

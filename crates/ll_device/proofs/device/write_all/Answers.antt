@@ -1,4 +1,4 @@
--- Each write takes the first of what is left, so what was taken joins.
+-- Each write takes a prefix of what is left, so the bytes taken join.
 use Rattle.std.proofs.Common.{◌∙◌}
 use Rattle.ll_device.proofs.WriteLemmas.{taken_within, Appends-taken, AppendsPrefix-taken}
 use Rattle.ll_device.proofs.device.write_all.Goals as goal

@@ -1,4 +1,4 @@
--- Each write takes the first of what is left of both, so what was taken joins; after the first text the rest of the second is left.
+-- Each write takes a prefix of what is left of both, so the bytes taken join; after the first text the rest of the second is left.
 use Rattle.std.proofs.Common.{◌++◌, ◌∙◌, ◌<◌, ◌≤◌, length, rules}
 use Rattle.ll_device.proofs.WriteLemmas.{AppendsPrefix-taken, both_cut, both_taken, both_whole, both_within}
 use Rattle.ll_device.proofs.device.write_both.Goals as goal

@@ -1,4 +1,4 @@
--- The first of both texts is written, no write has failed, and nothing was read.
+-- A prefix of both texts is written, no write has failed, and nothing was read.
 use Rattle.std.proofs.Common.{length, ◌-◌, ◌≡◌, ◌≤◌, ◌++◌, take}
 use Rattle.std.specs.Io.KnownBytes.{Appends}
 use Rattle.ll_device.proofs.device.write_both.Given as goal

@@ -1,4 +1,4 @@
--- What is told of the pairs so far, with those that are left, is what all of them tell.
+-- The directives of the pairs so far, with those that are left, are those of all pairs.
 use Rattle.std.proofs.Common.{◌≡◌, Some}
 use Rattle.form_urlencoded.specs.Form.{parse}
 use Rattle.ll_directive.specs.Told.{told_after}

@@ -1,4 +1,4 @@
--- Nothing that is told of a channel turns on bytes.
+-- Nothing that a record says of a channel depends on bytes.
 use Rattle.ll_entry.proofs.BlankLemmas.{fault-blank}
 use Rattle.ll_entry.proofs.laws.blank_law.Goals as goal
 

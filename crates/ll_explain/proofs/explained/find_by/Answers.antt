@@ -1,4 +1,4 @@
--- Each step leads on; the entry's line stands where the lines so far lead, or the record has no such entry.
+-- Each step leads on; the entry's line is where the lines so far lead, or the record has no such entry.
 use Rattle.std.proofs.Common.{Ok, ◌≡◌, sym, ◌∙◌}
 use Rattle.ll_attr.specs.Words.{pieces_at}
 use Rattle.ll_check.specs.Found.{IsAt, so_far}

@@ -1,10 +1,10 @@
--- Nothing is counted at first, each step counts what its lines tell, and what was passed is right.
+-- Nothing is counted at first, each step counts what its lines say, and what was passed is right.
 use Rattle.std.proofs.Common.{◌≡◌, ◌+◌, ◌-◌, ◌^◌, ◌<◌, List, None, ap, sym, ◌∙◌, length, map}
 use Rattle.ll_attr.specs.Words.{pieces_at}
 use Rattle.ll_check.proofs.StepLemmas.{GoesTo, goes-on}
 use Rattle.ll_check.specs.Found.{IsAt}
 use Rattle.ll_check.specs.Steps.{Moves}
-use Rattle.ll_enter.specs.declared.full.FullEntry.{FullEntry}
+use Rattle.ll_entry_check.specs.declared.full.FullEntry.{FullEntry}
 use Rattle.ll_entry.specs.Chain.{Between, Position}
 use Rattle.ll_explain.proofs.ChainLemmas.{Counts, counts-all, counts-first, counts-next, goes-counts}
 use Rattle.ll_explain.proofs.ExplainLemmas.{goes-later}

@@ -1,4 +1,4 @@
--- Where there is no reading, it is told as 0.
+-- If there is no reading, it is written as 0.
 use Rattle.ll_explain.specs.SummaryLines.{events_text}
 use Rattle.ll_explain.proofs.summary_lines.events_text.Goals as goal
 

@@ -1,4 +1,4 @@
--- Those that are held are told as they are counted.
+-- Those that are held are written as they are counted.
 use Rattle.ll_explain.specs.SummaryLines.{held_text}
 use Rattle.ll_explain.proofs.summary_lines.held_text.Goals as goal
 

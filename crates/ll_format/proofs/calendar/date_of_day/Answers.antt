@@ -1,4 +1,4 @@
--- The date that jiff gives has the same day number as the n-th date, and only one date has it.
+-- The date that jiff returns has the same day number as the n-th date, and only one date has it.
 use Rattle.ll_format.proofs.NthDate.{year_of_day, month_of_day, day_of_day}
 use Rattle.ll_format.proofs.calendar.date_of_day.Goals as goal
 

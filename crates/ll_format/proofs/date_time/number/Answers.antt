@@ -1,4 +1,4 @@
--- A number of so many digits is below that power of ten.
+-- A number of `count` digits is below that power of ten.
 use Rattle.std.proofs.Common.{IfSome, ℕ, ◌≡◌, ◌<◌, ◌^◌, Option, Some, None, List}
 use Rattle.ll_attr.proofs.Digits.{number_in-lt}
 use Rattle.ll_attr.specs.Numbers.{number_in}

@@ -1,4 +1,4 @@
--- What is read is spelled so, by where the point stands.
+-- What is read is spelled so, by the place of the point.
 use Rattle.std.proofs.Common.{sym, arith, ◌∙◌}
 use Rattle.std.proofs.lemmas.Slice.Eq.{bytes_eq-Decides}
 use Rattle.ll_format.proofs.Durations.{duration_some, duration_none, duration_uncut}

@@ -1,4 +1,4 @@
--- A text is cut where the byte is found.
+-- A text is cut at the first place of the byte.
 use Rattle.std.proofs.lemmas.Str.Pattern.{find_char}
 use Rattle.ll_format.proofs.Finding.{until_none, until_split}
 use Rattle.ll_format.proofs.value.until.Goals as goal

@@ -1,5 +1,5 @@
 use Rattle.std.specs.Prelude.{◌≡◌, length}
-use Rattle.ll_locked.specs.Ledgers.{IsRest}
+use Rattle.ll_hub_channel.specs.Ledgers.{IsRest}
 use Rattle.ll_hub.proofs.hub.lock_each.Given as goal
 
 abbrev pub invariant-loop-settings : goal.invariant-loop-settings

@@ -1,4 +1,4 @@
--- A list whose text begins with a quoted ID spells a date range, where memory is found for it.
+-- A list whose text begins with a quoted ID spells a date range, unless memory runs out.
 use Rattle.std.proofs.Common.{ap, Err}
 use Rattle.ll_item.proofs.RangeLines.{begins_with_id}
 use Rattle.ll_item.proofs.item_line.range_from.Goals as goal

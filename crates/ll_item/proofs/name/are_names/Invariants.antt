@@ -1,4 +1,4 @@
--- What is left to go over are names just where the whole are.
+-- The texts that are left are names exactly if all texts are.
 use Rattle.std.proofs.Common.{◌≡◌, drop}
 use Rattle.ll_item.specs.Names.{are_names}
 use Rattle.ll_item.proofs.name.are_names.Given as goal

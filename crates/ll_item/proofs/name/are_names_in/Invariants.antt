@@ -1,4 +1,4 @@
--- The names in what is left are names just where those of the whole are.
+-- The texts that are left are names exactly if all texts are.
 use Rattle.std.proofs.Common.{◌≡◌, length}
 use denote.Text.{Utf8}
 use denote.Shadow.{shadow}

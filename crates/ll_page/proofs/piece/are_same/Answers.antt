@@ -1,4 +1,4 @@
--- Parts are equal where all their fields are.
+-- Parts are equal if all their fields are.
 use Rattle.std.proofs.Common.{arith}
 use Rattle.std.proofs.lemmas.Bool.Decides.{nat_tests}
 use Rattle.std.proofs.lemmas.Slice.Eq.{slice_eq-Decides}

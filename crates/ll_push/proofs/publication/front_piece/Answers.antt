@@ -1,4 +1,4 @@
--- A piece that is there comes first; where none is, one more unit is taken.
+-- A piece that is there comes first; if none is, one more unit is taken.
 use Rattle.std.proofs.Common.{◌<◌, ◌∙◌, ap, refl, subst}
 use Rattle.ll_parts.specs.Stream.{CutterValue}
 use Rattle.ll_push.specs.Next.{IsPieceFault}

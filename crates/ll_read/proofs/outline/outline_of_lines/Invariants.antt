@@ -1,4 +1,4 @@
--- The outline so far, and what is left, come to what the text does, and each segment has taken a byte.
+-- The outline so far, with what is left, gives the outline of the text, and each segment has taken a byte.
 use Rattle.std.proofs.Common.{◌≡◌, ◌+◌, ◌≤◌, length}
 use denote.Text.{Utf8}
 use denote.Shadow.{shadow}

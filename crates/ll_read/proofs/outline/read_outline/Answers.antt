@@ -1,4 +1,4 @@
--- What the lines come to is the outline of the playlist, and bytes that are no text spell none.
+-- The outline of the lines is that of the playlist, and bytes that are no text spell none.
 use Rattle.std.proofs.Common.{◌∙◌, ap}
 use Rattle.ll_attr.specs.Words.{pieces_at}
 use Rattle.ll_read.specs.Draft.{blank}

@@ -1,4 +1,4 @@
--- The first line, where others follow.
+-- The first line, if others follow.
 use Rattle.std.proofs.Common.{◌∙◌}
 use Rattle.ll_read.proofs.Onward.{first_is}
 use Rattle.ll_read.proofs.reading.first.Goals as goal

@@ -1,4 +1,4 @@
--- A line takes the draft on.
+-- The draft with one more line.
 use Rattle.std.proofs.Common.{◌∙◌, ap}
 use Rattle.ll_line.specs.Meaning.{meant}
 use Rattle.ll_read.specs.Draft.{put}

@@ -1,4 +1,4 @@
--- Text that begins so is read line by line.
+-- Text that begins like a playlist is read line by line.
 use Rattle.std.proofs.Common.{◌≡◌, Ok, Err, IsOk, IfOk, IfErr, IsErrOf, subst}
 use Rattle.ll_read.specs.declared.fault.ReadFault.TheVariants.{Memory}
 use Rattle.ll_read.proofs.Begins.{begun, not_text}

@@ -1,4 +1,4 @@
--- A line more is read, or is the first that can't stand in its place.
+-- One more line is read, or is the first that isn't allowed in its place.
 use Rattle.std.proofs.Common.{None, Some, ◌++◌, ◌+◌, take, refl, ap, sym, ◌∙◌, arith, rules}
 use Rattle.ll_attr.specs.Words.{pieces_at}
 use Rattle.ll_line.specs.Formats.{line_in}

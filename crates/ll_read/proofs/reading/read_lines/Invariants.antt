@@ -1,4 +1,4 @@
--- What the lines so far come to, and what is left, come to what the text does.
+-- Reading what is left after the lines so far gives the result of the whole text.
 use Rattle.std.proofs.Common.{◌≡◌, ◌≤◌, ◌+◌, length, take, drop}
 use denote.Text.{Utf8}
 use denote.Shadow.{shadow}

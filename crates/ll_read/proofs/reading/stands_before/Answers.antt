@@ -1,4 +1,4 @@
--- A line is the one, or those after it tell.
+-- A line has the id, or it depends on those after it.
 use Rattle.std.proofs.Common.{arith, false, rules, sym, true, ◌∙◌}
 use Rattle.ll_read.proofs.Before.{turn}
 use Rattle.ll_read.proofs.reading.stands_before.Goals as goal

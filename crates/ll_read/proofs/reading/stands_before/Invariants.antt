@@ -1,4 +1,4 @@
--- What is left of the lines tells what all of them tell.
+-- The lines that are left have the id exactly if all of them do.
 use Rattle.std.proofs.Common.{◌≡◌, take}
 use denote.Text.{Utf8}
 use denote.Shadow.{shadow}

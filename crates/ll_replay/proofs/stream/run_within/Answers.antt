@@ -1,4 +1,4 @@
--- Each fault has a clause of its own, of which one clause of the reading loop tells.
+-- Each fault has a clause of its own; one clause of `read_all` has them all.
 use Rattle.std.proofs.lemmas.Result.{IfErr-at_err, IfOk-weaker}
 use Rattle.ll_replay.proofs.StreamLemmas.{StopsForMemory-begun}
 use Rattle.ll_replay.proofs.stream.run_within.Goals as goal

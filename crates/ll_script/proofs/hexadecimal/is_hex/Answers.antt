@@ -1,4 +1,4 @@
--- A text spells bytes where it is an even number of digits.
+-- A text spells bytes if it is an even number of digits.
 use Rattle.std.proofs.Common.{sym, ◌∙◌}
 use Rattle.ll_script.proofs.HexLemmas.{even-some, odd-some}
 use Rattle.ll_script.proofs.hexadecimal.is_hex.Goals as goal

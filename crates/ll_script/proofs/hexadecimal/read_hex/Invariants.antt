@@ -1,3 +1,4 @@
+-- The bytes so far are those of the digits that were read, two at a time.
 use Rattle.std.proofs.Common.{◌≡◌, ◌+◌, ◌*◌, ◌≤◌, length}
 use Rattle.std.specs.Prelude.{vec_capacity, vec_len}
 use Rattle.std.specs.Slice.Iter.{chunks_exact_rest, chunks_exact_size}

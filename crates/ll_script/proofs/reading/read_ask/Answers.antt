@@ -1,4 +1,4 @@
--- A request for whose target no memory was found is answered so, unless its channel isn't there.
+-- A request whose target is out of memory is answered so, unless there is no such channel.
 use Rattle.std.proofs.Common.{Err, ap, subst}
 use Rattle.std.specs.Prelude.{IsOk}
 use Rattle.ll_directive.specs.Targets.{want_in}

@@ -1,4 +1,4 @@
--- Digits that spell bytes were found before memory was wanted.
+-- Digits that spell bytes were found before anything is allocated.
 use Rattle.ll_script.specs.Hex.{bytes_in_hex}
 use Rattle.ll_script.proofs.ReadingLemmas.{bytes_by-some}
 use Rattle.ll_script.proofs.reading.read_piece.Goals as goal

@@ -1,4 +1,4 @@
--- Each line adds its channel, until one can't stand there, no memory is found or no line is left.
+-- Each line adds its channel, until one isn't allowed there, memory runs out or no line is left.
 use Rattle.std.proofs.Common.{◌≡◌, ◌++◌, ◌∷◌, [], Some, ap, arith, cond, not, sym, ◌∙◌}
 use Rattle.ll_server.proofs.ChannelLemmas.{reads-bad, reads-full, reads-memory, reads-next, room-for}
 use Rattle.ll_server.proofs.ConfigLemmas.{fault-is}

@@ -1,4 +1,4 @@
--- A line that begins with the keyword, and tells no path.
+-- A line that begins with the keyword, and has no path.
 use Rattle.std.proofs.Common.{sym, ◌∙◌}
 use Rattle.ll_server.proofs.ConfigLemmas.{fault-is, path-bad}
 use Rattle.ll_server.specs.Config.{next_path}

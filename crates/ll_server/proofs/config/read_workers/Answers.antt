@@ -1,4 +1,4 @@
--- A line that tells nothing.
+-- A line without a number of workers.
 use Rattle.std.proofs.Common.{sym}
 use Rattle.ll_server.proofs.ConfigLemmas.{fault-is, next-bad}
 use Rattle.ll_server.specs.Config.{next, workers_line}

@@ -1,3 +1,4 @@
+-- More bytes only add requests.
 use Rattle.ll_session.proofs.RequestLemmas.{requests-extend}
 use Rattle.ll_session.proofs.laws.requests_stay_law.Goals as goal
 

@@ -1,3 +1,4 @@
+-- The laws of connections.
 use Rattle.ll_session.proofs.PastLemmas.{is_talk}
 use Rattle.ll_session.proofs.SplitLemmas.{none_is_left}
 use Rattle.ll_session.proofs.laws.session_law.Goals as goal

@@ -1,3 +1,4 @@
+-- Each turn takes one head, and a want, a part of a head or a refusal that ends the connection is the last.
 use Rattle.std.proofs.Common.{◌≡◌, ◌∙◌, ap, length-drop, arith, rules, length, sym, true, false}
 use Rattle.std.proofs.lemmas.List.{drop-drop, drop_all}
 use Rattle.ll_session.proofs.TakingLemmas.{at_part, at_fault, at_want, at_last, at_refused}

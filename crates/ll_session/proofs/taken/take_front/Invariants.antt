@@ -1,3 +1,4 @@
+-- The answers so far and what is taken from the rest are together what is taken from all.
 use Rattle.std.proofs.Common.{◌≤◌, ◌-◌, length, drop}
 use Rattle.ll_session.specs.Talk.{taking}
 use Rattle.ll_session.specs.Told.{AddsUp}

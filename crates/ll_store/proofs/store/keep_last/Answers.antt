@@ -1,4 +1,4 @@
--- A segment is taken off the front only where more are left than are wanted.
+-- A segment is dropped from the front only if more are left than are kept.
 use Rattle.std.proofs.Common.{ap, arith, length, ◌<◌, ◌∙◌}
 use Rattle.ll_store.proofs.Last.{last_shorter}
 use Rattle.ll_store.specs.Media.{last_of}

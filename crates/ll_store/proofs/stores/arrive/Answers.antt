@@ -1,4 +1,4 @@
--- The store of the item's rendition takes it in, and the others stay; where there is none, all stay.
+-- The store of the item's rendition changes, and the others stay; if there is none, all stay.
 use Rattle.std.proofs.Common.{refl, ap, ap₂, sym, ◌∙◌, length}
 use Rattle.std.proofs.lemmas.Option.{slice_get_past, slice_get_read}
 use Rattle.std.specs.Prelude.{slice_set}

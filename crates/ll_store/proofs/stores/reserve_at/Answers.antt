@@ -1,4 +1,4 @@
--- The store at the place finds memory, and keeps what it kept; where there is none, nothing is to find.
+-- The store at the place reserves memory and keeps what it kept; if there is no store, there is nothing to reserve.
 use Rattle.std.proofs.Common.{refl, ap, length, true}
 use Rattle.std.proofs.lemmas.Option.{slice_get_past, slice_get_read}
 use Rattle.std.specs.Option.{option_map_or}

@@ -1,3 +1,4 @@
+-- No field so far says that the connection is closed.
 use Rattle.std.proofs.Common.{◌≡◌, drop, map}
 use Rattle.std.specs.List.{list_any}
 use Rattle.httparse.specs.Spans.{header_bytes}

@@ -1,3 +1,4 @@
+-- The fields counted so far and those that follow are all fields.
 use Rattle.std.proofs.Common.{◌≡◌, ◌+◌, ◌≤◌, drop, map, count_by}
 use Rattle.httparse.specs.Spans.{header_bytes}
 use Rattle.ll_wire.specs.Heads.{is_host}

@@ -1,3 +1,4 @@
+-- A trimmed member is compared in either case of letters.
 use Rattle.std.proofs.Common.{◌≡◌, ◌∙◌, refl, ap, codes, rules}
 use borrow.Author.Tests.{tests}
 use Rattle.std.specs.Str.{str_eq_ignore_ascii_case}

@@ -1,3 +1,4 @@
+-- Fewer bytes than the limit are all among the first.
 use Rattle.std.proofs.Common.{sym, arith}
 use Rattle.std.proofs.lemmas.List.{take_all}
 use Rattle.ll_wire.proofs.head.front.Goals as goal

@@ -1,3 +1,4 @@
+-- Bytes that no head begins with are unfinished in a target, and else BadHead.
 use Rattle.std.proofs.Common.{◌∙◌, sym}
 use Rattle.ll_wire.proofs.FrontLemmas.{at_target, at_invalid}
 use Rattle.ll_wire.proofs.head.malformed.Goals as goal

@@ -1,3 +1,4 @@
+-- With room for every field, a parse is complete, partial or malformed.
 use Rattle.std.proofs.Common.{◌∙◌, [], sym, ap, Err}
 use Rattle.httparse.proofs.GrammarLemmas.{ReadsRequest-append}
 use Rattle.ll_wire.proofs.FrontLemmas.{at_partial, at_head, judged-many, start-short}

@@ -1,3 +1,4 @@
+-- What a parse of the first bytes found holds in all bytes.
 use Rattle.std.proofs.Common.{◌∙◌, sym}
 use Rattle.ll_wire.proofs.FrontLemmas.{at_partial, at_head, judged-by, found_in_all, within_all}
 use Rattle.ll_wire.proofs.head.next_head.Goals as goal

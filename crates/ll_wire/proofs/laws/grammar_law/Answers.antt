@@ -1,3 +1,4 @@
+-- What stands at the front, by the grammar alone.
 use Rattle.std.proofs.Common.{refl}
 use Rattle.ll_wire.specs.Laws.{first_bytes}
 use Rattle.ll_wire.proofs.FrontLemmas.{at_head, at_partial, at_other}

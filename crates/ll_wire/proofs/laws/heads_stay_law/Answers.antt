@@ -1,3 +1,4 @@
+-- More bytes change only what is unfinished.
 use Rattle.ll_wire.proofs.HeadLemmas.{head-stays, whole-within}
 use Rattle.ll_wire.proofs.laws.heads_stay_law.Goals as goal
 

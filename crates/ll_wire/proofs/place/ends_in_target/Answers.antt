@@ -1,3 +1,4 @@
+-- The last place is the target's if and only if the reading ends there.
 use Rattle.std.proofs.Common.{◌∙◌, sym, ap, fold, arith}
 use Rattle.std.proofs.lemmas.List.{drop_all}
 use Rattle.ll_wire.specs.Places.{next_place}

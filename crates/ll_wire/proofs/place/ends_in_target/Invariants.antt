@@ -1,3 +1,4 @@
+-- The place so far and the bytes that follow give the last place.
 use Rattle.std.proofs.Common.{◌≡◌, fold, drop}
 use Rattle.ll_wire.specs.Places.{next_place}
 use Rattle.ll_wire.proofs.place.ends_in_target.Given as goal

@@ -1,4 +1,4 @@
--- The ledgers are those of the blanks, for so many channels.
+-- The ledgers are those of the blanks, for the number of channels.
 use Rattle.std.specs.Prelude.{length}
 use Rattle.llhls.proofs.serve.serve.Given as goal
 

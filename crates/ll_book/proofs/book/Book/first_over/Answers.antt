@@ -1,4 +1,4 @@
--- Who is found under the ticket of the first deadline waits; where it hasn't come, nobody's time is over.
+-- The request of the first deadline waits; if that deadline isn't reached, none is.
 use Rattle.std.proofs.Common.{◌≤◌, ◌∙◌, ap, filter, subst, sym}
 use Rattle.ll_verdict.specs.Waiting.{found}
 use Rattle.ll_book.specs.Orders.{IsWaiting}

@@ -1,4 +1,4 @@
--- The first ticket of those whose replies are there.
+-- The first ticket of those that have their reply.
 use Rattle.std.proofs.Common.{◌∙◌, ap}
 use Rattle.std.specs.List.{slice_get}
 use Rattle.ll_verdict.specs.Waiting.{first_ready}

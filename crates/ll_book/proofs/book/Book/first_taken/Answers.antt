@@ -1,4 +1,4 @@
--- Who is found under the ticket of the first covered place waits; where there is none, the release takes nobody.
+-- The request of the first covered place waits; if no place is covered, the release takes none.
 use Rattle.std.proofs.Common.{subst}
 use Rattle.ll_book.specs.Numbers.{AreRising}
 use Rattle.ll_verdict.specs.Waiting.{ticket_in}

@@ -1,4 +1,4 @@
--- A request is put into both orders and stands last; where memory isn't found, it leaves them again.
+-- A request is put into both orders and stands last; if memory is missing, it leaves them again.
 use Rattle.std.proofs.Common.{subst, sym, arith}
 use Rattle.ll_book.specs.Places.{Adds, IsOrder, Removes}
 use Rattle.ll_verdict.specs.State.{is_waiting}

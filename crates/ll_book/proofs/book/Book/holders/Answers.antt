@@ -1,4 +1,4 @@
--- The holders, made one after another in the order of what is awaited, are those of the release in order of tickets.
+-- The replies, made one after another in the order of what is awaited, are those of the release in order of tickets.
 use Rattle.std.proofs.Common.{◌∙◌, ◌≡◌, ◌^◌, ap, None, find, refl, subst, sym, arith}
 use Rattle.std.specs.Ordering.{is_gt}
 use Rattle.ll_book.specs.Numbers.{AreRising}

@@ -1,4 +1,4 @@
--- Those up to a place have their holders.
+-- Those up to a place have their replies.
 use Rattle.std.proofs.Common.{◌≡◌, ◌≤◌, ◌+◌, ◌<◌, ◌^◌, ℕ, false, filter, find, length}
 use Rattle.std.specs.Ordering.{is_gt}
 use Rattle.ll_book.specs.Places.{place_cmp}

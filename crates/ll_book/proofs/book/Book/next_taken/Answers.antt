@@ -1,4 +1,4 @@
--- The first place after another tells whether any is covered.
+-- If any later place is covered, the first one is.
 use Rattle.std.proofs.Common.{◌∙◌, subst, sym}
 use Rattle.ll_book.specs.Orders.{IsNextTaken, NoneTaken}
 use Rattle.ll_book.proofs.TakeLemmas.{next_taken, none_if, nothing_after, uncovered_after}

@@ -1,4 +1,4 @@
--- A release takes any where it takes a first.
+-- A release takes any request if it takes a first one.
 use Rattle.std.proofs.Common.{◌∙◌}
 use Rattle.ll_book.proofs.TakeLemmas.{takes_some}
 use Rattle.ll_book.proofs.book.Book.takes_any.Goals as goal

@@ -1,4 +1,4 @@
--- A ticket goes to its place, where it has none.
+-- A ticket goes to its place, unless it is there.
 use Rattle.std.proofs.Common.{◌∙◌, ◌==◌, Ok, Err, Some, ap, cond, find, sym, subst}
 use Rattle.std.proofs.lemmas.List.Sorted.{searched}
 use Rattle.ll_book.specs.Numbers.{AreRising, has_number}

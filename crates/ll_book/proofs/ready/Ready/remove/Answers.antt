@@ -1,4 +1,4 @@
--- The ticket's place is found, where it is among them.
+-- The ticket's place is found, if it is there.
 use Rattle.std.proofs.Common.{◌∙◌, Ok, Err, ap, sym, subst}
 use Rattle.std.proofs.lemmas.List.Sorted.{searched}
 use Rattle.ll_book.specs.Numbers.{AreRising, all_but}

@@ -1,4 +1,4 @@
--- The slot of a ticket gets its reply, where there is one.
+-- The slot of a ticket gets its reply, if there is one.
 use Rattle.std.proofs.Common.{◌∙◌, ap, refl}
 use Rattle.ll_book.specs.Numbers.{changed}
 use Rattle.ll_book.proofs.Keyed.{keyed_changed}

@@ -1,4 +1,4 @@
--- Bytes that are read to their end from the start come to what is counted then.
+-- The result of bytes that are read to their end from the start is what is counted then.
 use Rattle.std.proofs.Common.{◌≡◌, None, true, rules}
 use Rattle.ll_attr.specs.Words.{pieces_at}
 use Rattle.ll_entry.specs.Chain.{Between, checked, checked_from, not_before}

@@ -1,3 +1,4 @@
+-- Bytes that come on an open or a new connection are a turn of it; if it has ended, nothing changes.
 use Rattle.std.proofs.Common.{[], ap, sym}
 use Rattle.ll_connection.specs.Stands.{open_in}
 use Rattle.ll_connection.specs.Turn.{bytes_to, session_of}

@@ -1,5 +1,6 @@
+-- An open session is taken out and its request closed; if none is open, nothing changes.
 use Rattle.std.proofs.Common.{Some, ap, sym, ◌∙◌}
-use Rattle.ll_rooms.specs.Kept.{kept_world}
+use Rattle.ll_script_rooms.specs.Kept.{kept_world}
 use Rattle.ll_connection.specs.Turn.{Turn, end_of, session_of}
 use Rattle.ll_connection.proofs.TurnLemmas.{none_ends, open_is, stays, there}
 use Rattle.ll_connection.proofs.connections.Connections.end.Goals as goal

@@ -1,3 +1,4 @@
+-- With each round fewer connections are left.
 use Rattle.std.proofs.Common.{length}
 use Rattle.ll_connection.proofs.connections.Connections.finish.Given as goal
 

@@ -1,3 +1,4 @@
+-- Inserting under a number is what the definition says.
 use Rattle.std.proofs.Common.{ap, ◌∙◌}
 use Rattle.ll_connection.specs.Turn.{with_session}
 use Rattle.ll_connection.proofs.TurnLemmas.{put_is}

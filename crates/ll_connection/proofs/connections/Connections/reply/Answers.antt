@@ -1,3 +1,4 @@
+-- A reply to an open connection is a turn of it; if none is open, nothing changes.
 use Rattle.std.proofs.Common.{[], ap, sym}
 use Rattle.ll_connection.specs.Turn.{reply_to, session_of}
 use Rattle.ll_connection.specs.Visit.{released}

@@ -1,3 +1,4 @@
+-- If the number was never opened, nothing is taken out.
 use Rattle.std.proofs.Common.{ap, sym, ◌∙◌}
 use Rattle.ll_connection.specs.Stands.{open_in}
 use Rattle.ll_connection.proofs.TurnLemmas.{same_entries, stays, taken_out}

@@ -1,3 +1,4 @@
+-- If the number is new, nothing is taken out.
 use Rattle.std.proofs.Common.{◌≡◌, ap, subst, sym}
 use Rattle.ll_connection.specs.Stands.{open_in}
 use Rattle.ll_connection.specs.Turn.{Connections}

@@ -1,3 +1,4 @@
+-- The bytes are taken, and then the requests are handed in.
 use Rattle.ll_connection.specs.Visit.{Visit, came}
 use Rattle.ll_connection.proofs.OpenLemmas.{came_has}
 use Rattle.ll_connection.proofs.open.Open.arrive.Goals as goal

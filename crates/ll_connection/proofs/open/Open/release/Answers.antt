@@ -1,3 +1,4 @@
+-- The reply is put out, with the first luck, and then the next requests are handed in.
 use Rattle.std.proofs.Common.{◌∷◌, true}
 use Rattle.ll_connection.specs.Visit.{Luck}
 use Rattle.ll_connection.proofs.open.Open.release.Goals as goal

@@ -1,3 +1,4 @@
+-- A step is one of the definition: the session is out of memory, has no want, or has one that is answered or waits.
 use Rattle.std.proofs.Common.{[], ◌<◌, ap, length, subst, sym, ◌∙◌}
 use Rattle.ll_session.specs.Talk.{SessionValue, fed, muted}
 use Rattle.ll_connection.specs.Visit.{asked, put_out}

@@ -1,3 +1,4 @@
+-- Each step goes on with the visit, and the last one ends it.
 use Rattle.std.proofs.Common.{◌∙◌}
 use Rattle.ll_connection.proofs.OpenLemmas.{goes_last, goes_on}
 use Rattle.ll_connection.proofs.open.Open.submit.Goals as goal

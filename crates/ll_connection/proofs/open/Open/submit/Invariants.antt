@@ -1,6 +1,7 @@
+-- The steps so far have left a visit that goes on; with each step fewer bytes are left.
 use Rattle.std.proofs.Common.{◌≡◌, length}
-use Rattle.ll_rooms.specs.Kept.{kept_world}
-use Rattle.ll_rooms.specs.World.{World, all_settings}
+use Rattle.ll_script_rooms.specs.Kept.{kept_world}
+use Rattle.ll_script_rooms.specs.World.{World, all_settings}
 use Rattle.ll_connection.proofs.OpenLemmas.{GoesOn}
 use Rattle.ll_connection.proofs.open.Open.submit.Given as goal
 

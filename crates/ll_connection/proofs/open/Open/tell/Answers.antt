@@ -1,3 +1,4 @@
+-- One answer is written, and then those that are left.
 use Rattle.std.proofs.Common.{◌++◌, List, ℕ, ap, subst, ◌∙◌}
 use Rattle.ll_script.specs.Answers.{sent_line}
 use Rattle.ll_session.specs.Talk.{SessionValue}

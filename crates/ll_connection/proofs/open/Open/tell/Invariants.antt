@@ -1,3 +1,4 @@
+-- What was written so far, and the answers that are left, are all answers of the session.
 use Rattle.std.proofs.Common.{◌≡◌, length}
 use Rattle.ll_connection.specs.Stands.{AreTold}
 use Rattle.ll_connection.specs.declared.sent.Sent.{Sent}

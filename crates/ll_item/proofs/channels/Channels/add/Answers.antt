@@ -1,4 +1,4 @@
--- One more channel, whose name finds it where it is the first of its name.
+-- One more channel, which its name finds if it is the first with that name.
 use Rattle.std.proofs.Common.{◌≡◌, ◌∙◌, arith, length, subst, sym}
 use Rattle.ll_item.specs.ChannelPlaces.{FindsPlaces}
 use Rattle.ll_item.proofs.ChannelLemmas.{FindsPlaces-push}

@@ -1,4 +1,4 @@
--- What is kept of a date range's attributes is kept of the item.
+-- The invariant of a date range's attributes is that of the item.
 use Rattle.std.proofs.Common.{OnOk, subst, sym}
 use Rattle.ll_item.specs.ItemLines.{HasAttributes}
 use Rattle.ll_item.proofs.item.Item.push_line.Goals as goal

@@ -1,4 +1,4 @@
--- A connection was lost before the place was told, or the question is refused, or publishing goes on.
+-- A connection was lost before the question was answered, or the question is refused, or publishing goes on.
 use Rattle.std.proofs.Common.{◌∙◌, Err, ap, sym, subst}
 use Rattle.ll_push.specs.Connecting.{IsPlacedSo}
 use Rattle.ll_push.specs.Exchanges.{link_value}

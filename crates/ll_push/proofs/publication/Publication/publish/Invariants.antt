@@ -1,4 +1,4 @@
--- What was sent and accepted are the first of the messages that were to be sent, and nothing has failed.
+-- The messages that were sent and accepted are the first of those that were to be sent, and nothing has failed.
 use Rattle.std.proofs.Common.{◌≡◌, ◌≤◌, Some}
 use Rattle.ll_push.specs.Exchanges.{link_value}
 use Rattle.ll_push.specs.Meaning.{targeted}

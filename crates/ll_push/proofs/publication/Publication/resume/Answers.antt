@@ -1,4 +1,4 @@
--- The place is where all was accepted, or where the first message leads that is kept.
+-- The place is the one after all that was accepted, or the one to which the first message that is kept leads.
 use Rattle.std.proofs.Common.{◌∙◌, ap, sym}
 use Rattle.ll_announce.specs.Places.{led}
 use Rattle.ll_push.specs.Connecting.{Accepted, Here}

@@ -1,4 +1,4 @@
--- Clones tell the same.
+-- Clones have the same value.
 use Rattle.std.proofs.Common.{◌∙◌}
 use Rattle.ll_range.proofs.Copies.{copied_listed}
 use Rattle.ll_range.proofs.listed.RangeMapClone.clone.Goals as goal

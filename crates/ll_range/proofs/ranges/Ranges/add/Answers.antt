@@ -1,4 +1,4 @@
--- What was tested is why the items let it follow; what was added is the step of the list.
+-- The test is the refusal after the items, and the addition is the step from them.
 use Rattle.std.proofs.Common.{subst, None, ◌≡◌, ◌++◌, ◌∷◌, []}
 use Rattle.ll_item.specs.declared.item.Item.TheVariants as item
 use Rattle.ll_range.specs.Announced.{add_refusal, announced}

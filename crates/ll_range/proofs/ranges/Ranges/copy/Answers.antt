@@ -1,4 +1,4 @@
--- Another holder of the date ranges tells the same, and so does a clone of the removals.
+-- Another handle of the date ranges has the same value, and so does a clone of the removals.
 use Rattle.std.proofs.Common.{◌∙◌}
 use Rattle.ll_range.proofs.Copies.{copied_recent, same_told}
 use Rattle.ll_range.proofs.ranges.Ranges.copy.Goals as goal

@@ -1,4 +1,4 @@
--- What was added is the step of the list.
+-- The addition is the step from the items.
 use Rattle.ll_range.proofs.Steps.{accepted-range}
 use Rattle.ll_range.proofs.ranges.Ranges.list.Goals as goal
 

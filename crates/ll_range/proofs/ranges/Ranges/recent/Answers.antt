@@ -1,4 +1,4 @@
--- A turn adds the id of the removal at its place where it is recent, and there is one at each place.
+-- A turn adds the id of the removal at its place if it is recent, and there is one at each place.
 use Rattle.std.proofs.Common.{◌+◌, ◌++◌, [], ◌∷◌, true, false, length, nat_le, ap, sym, ◌∙◌, arith}
 use Rattle.std.proofs.lemmas.List.{append-nil, length-map}
 use Rattle.ll_range.specs.Announced.{Announced}

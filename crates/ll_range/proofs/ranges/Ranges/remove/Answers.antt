@@ -1,4 +1,4 @@
--- What was tested is why the items let it follow; what was taken away is the step of the list.
+-- The test is the refusal after the items, and the removal is the step from them.
 use Rattle.ll_range.proofs.Steps.{free-unrange}
 use Rattle.ll_range.proofs.ranges.Ranges.remove.Goals as goal
 

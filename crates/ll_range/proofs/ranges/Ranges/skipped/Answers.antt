@@ -1,4 +1,4 @@
--- A turn counts the date range at its place where it may be skipped, and there is one at each place.
+-- A turn counts the date range at its place if it may be skipped, and there is one at each place.
 use Rattle.std.proofs.Common.{◌≡◌, ◌+◌, ℕ, Bool, true, false, not, nat_le, nat_lt, ap, ◌∙◌, arith}
 use Rattle.std.proofs.lemmas.Bool.Decides.{nat_tests}
 use Rattle.ll_range.specs.Announced.{Announced, is_skipped}
@@ -6,7 +6,7 @@ use Rattle.ll_range.proofs.Recent.{next-skipped}
 use Rattle.ll_range.proofs.ranges.Ranges.skipped.Goals as goal
 use Rattle.ll_range.proofs.ranges.Ranges.skipped.Goals.{in-Some+then-not-is_recent, in-Some+else-not-is_recent, in_default}
 
--- a date range is skipped where its adding is not recent
+-- a date range is skipped if its adding is not recent
 either_way : (added limit end : ℕ) (b : Bool) → b ≡ nat_le end (added + limit) → nat_lt (added + limit) end ≡ not b
 either_way added limit end true e = grind (arith, nat_tests)
 either_way added limit end false e = grind (arith, nat_tests)

@@ -1,4 +1,4 @@
--- What was taken away is the step of the list.
+-- The removal is the step from the items.
 use Rattle.ll_range.proofs.Steps.{accepted-unrange}
 use Rattle.ll_range.proofs.ranges.Ranges.unlist.Goals as goal
 

@@ -42,7 +42,7 @@ told c = record {
   };
 }
 
--- what is written is what comes of the request
+-- what is written is the result of the request
 outcome-is : (c : goal.After-row_known-1) (events : List Event) → Stands c.self.inside.room events
     → c.outcome-outcome.result ≡ option_map outcome_of (at_once c.self.inside.room.settings (held c.self.inside.room.settings events) events c.args.want)
 outcome-is c events stands =

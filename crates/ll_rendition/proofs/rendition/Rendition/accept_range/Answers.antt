@@ -1,4 +1,4 @@
--- The date ranges take the item, and it leaves the window.
+-- The item changes the date ranges and leaves the window as it is.
 use Rattle.std.proofs.Common.{◌∙◌, ap, sym}
 use Rattle.ll_item.specs.declared.item.Item.TheVariants as item
 use Rattle.ll_rendition.proofs.ItemLemmas.{ranged}

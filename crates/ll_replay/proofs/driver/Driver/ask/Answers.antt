@@ -1,11 +1,11 @@
--- What the rooms answer to a request is counted and spelled; one for which no memory was found is answered so.
+-- The rooms' answer to a request is counted and spelled; a request that is out of memory is answered so.
 use Rattle.std.proofs.Common.{Err, ap, false, true}
 use Rattle.std.proofs.lemmas.Result.{IfOk-weaker}
-use Rattle.ll_rooms.specs.declared.owner.Owner.TheVariants.{Get}
-use Rattle.ll_rooms.specs.World.{ask}
+use Rattle.ll_script_rooms.specs.declared.owner.Owner.TheVariants.{Get}
+use Rattle.ll_script_rooms.specs.World.{ask}
 use Rattle.ll_replay.proofs.DoneLemmas.{unchanged-keeps}
 use Rattle.ll_replay.proofs.HeardLemmas.{asked-result}
-use Rattle.ll_rooms.proofs.SettingsLaws.{ask-keeps}
+use Rattle.ll_script_rooms.proofs.SettingsLaws.{ask-keeps}
 use Rattle.ll_replay.specs.contracts.driver.Driver.{the_view}
 use Rattle.ll_replay.proofs.driver.Driver.ask.Goals as goal
 

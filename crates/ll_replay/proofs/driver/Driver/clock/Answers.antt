@@ -1,11 +1,11 @@
 -- What the rooms answer to a reading is counted and spelled.
 use Rattle.std.proofs.Common.{Ok, Some, refl}
 use Rattle.ll_script.specs.declared.act.Act.TheVariants.{Clock}
-use Rattle.ll_rooms.specs.World.{clock}
+use Rattle.ll_script_rooms.specs.World.{clock}
 use Rattle.ll_replay.specs.Script.{plain}
 use Rattle.ll_replay.proofs.DoneLemmas.{done-is}
 use Rattle.ll_replay.proofs.HeardLemmas.{heard-result}
-use Rattle.ll_rooms.proofs.SettingsLaws.{clock-keeps}
+use Rattle.ll_script_rooms.proofs.SettingsLaws.{clock-keeps}
 use Rattle.ll_replay.specs.contracts.driver.Driver.{the_view}
 use Rattle.ll_replay.proofs.driver.Driver.clock.Goals as goal
 

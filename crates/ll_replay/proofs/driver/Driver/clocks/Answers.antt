@@ -1,4 +1,4 @@
--- Each channel is told, one after another.
+-- Each channel takes the reading, one after another.
 use Rattle.std.proofs.Common.{◌≡◌, ◌<◌, ◌∙◌, Err, [], ap, arith, length, refl}
 use Rattle.ll_replay.specs.Kept.{Kept}
 use Rattle.ll_replay.proofs.RestLemmas.{all-told, clocks-cut, clocks-next}

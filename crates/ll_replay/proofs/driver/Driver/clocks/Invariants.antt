@@ -1,4 +1,4 @@
--- The channels before this place were told.
+-- The channels before this place have taken the reading.
 use Rattle.std.proofs.Common.{◌≡◌}
 use Rattle.ll_replay.proofs.RestLemmas.{Told}
 use Rattle.ll_replay.proofs.driver.Driver.clocks.Given as goal

@@ -1,8 +1,8 @@
 -- The first reply that is due goes to its connection, or is counted and spelled.
 use Rattle.std.proofs.Common.{◌≡◌, Option, refl, subst, sym}
-use Rattle.ll_rooms.specs.Kept.{Leads, kept_world}
-use Rattle.ll_rooms.specs.World.{World, next_reply}
-use Rattle.ll_rooms.specs.declared.answer.ActAnswer.{ActAnswer}
+use Rattle.ll_script_rooms.specs.Kept.{Leads, kept_world}
+use Rattle.ll_script_rooms.specs.World.{World, next_reply}
+use Rattle.ll_script_rooms.specs.declared.answer.ActAnswer.{ActAnswer}
 use Rattle.ll_replay.proofs.TurnLemmas.{next_reply-heard, next_reply-passed}
 use Rattle.ll_replay.specs.contracts.driver.Driver.{the_view}
 use Rattle.ll_replay.proofs.driver.Driver.next_reply.Goals as goal

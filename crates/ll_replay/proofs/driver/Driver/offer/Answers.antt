@@ -1,12 +1,12 @@
--- What the rooms answer to an item is counted and spelled; one for which no memory was found is refused so.
+-- The rooms' answer to an item is counted and spelled; an item that is out of memory is refused so.
 use Rattle.std.proofs.Common.{None, Ok, Some, refl, true}
 use Rattle.ll_publish.specs.Refusals.{no_line, out_of_memory}
 use Rattle.ll_script.specs.declared.act.Act.TheVariants.{Offer}
-use Rattle.ll_rooms.specs.World.{offer}
+use Rattle.ll_script_rooms.specs.World.{offer}
 use Rattle.ll_replay.specs.Script.{plain}
 use Rattle.ll_replay.proofs.DoneLemmas.{done-is, line-says, unchanged-keeps}
 use Rattle.ll_replay.proofs.HeardLemmas.{heard-result}
-use Rattle.ll_rooms.proofs.SettingsLaws.{offer-keeps}
+use Rattle.ll_script_rooms.proofs.SettingsLaws.{offer-keeps}
 use Rattle.ll_replay.specs.contracts.driver.Driver.{the_view}
 use Rattle.ll_replay.proofs.driver.Driver.offer.Goals as goal
 

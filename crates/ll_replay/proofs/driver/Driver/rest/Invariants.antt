@@ -1,4 +1,4 @@
--- So many replies were written.
+-- As many replies as rounds were written.
 use Rattle.std.proofs.Common.{◌≡◌}
 use Rattle.ll_replay.proofs.RestLemmas.{Goes}
 use Rattle.ll_replay.proofs.driver.Driver.rest.Given as goal

@@ -1,4 +1,4 @@
--- The rooms tell where the rendition stands, which is spelled.
+-- Where the rendition stands, by the rooms, is spelled.
 use Rattle.ll_replay.proofs.DoneLemmas.{told-says}
 use Rattle.ll_replay.specs.contracts.driver.Driver.{the_view}
 use Rattle.ll_replay.proofs.driver.Driver.standing.Goals as goal

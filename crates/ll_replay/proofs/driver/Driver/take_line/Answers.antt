@@ -1,4 +1,4 @@
--- What a line makes of the driver is what it means.
+-- A line changes the driver as it means.
 use Rattle.std.proofs.Common.{◌≤◌, Err, ap, arith, length}
 use Rattle.ll_replay.specs.contracts.driver.Driver.{the_view}
 use Rattle.ll_replay.proofs.TakeLemmas.{take-acts, take-bad, take-cut, take-nowhere, take-too_long}

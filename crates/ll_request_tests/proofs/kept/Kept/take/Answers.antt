@@ -1,4 +1,4 @@
--- Who leaves leaves the others below.
+-- Removing a request leaves the tickets of the others below the next one.
 use Rattle.std.proofs.Common.{not, subst, sym}
 use Rattle.ll_verdict.specs.Waiting.{AreBelow, is_ready_at}
 use Rattle.ll_request_tests.proofs.BelowLemmas.{below_filter}

@@ -1,4 +1,4 @@
--- One more item, told by what is kept.
+-- One more item, by what is kept.
 use Rattle.std.proofs.Common.{ap, subst, ◌∙◌, ◌≤◌}
 use Rattle.ll_room.specs.Freed.{new_supply, releases}
 use Rattle.ll_room.specs.RoomValue.{RoomValue, tickets}

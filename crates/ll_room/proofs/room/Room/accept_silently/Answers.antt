@@ -10,8 +10,8 @@ use Rattle.ll_room.proofs.StoreLemmas.{free-few, stored}
 use Rattle.ll_room.specs.RoomValue.{RoomValue}
 use Rattle.ll_room.specs.contracts.room.Room.{the_view}
 use Rattle.ll_room.proofs.PublishLemmas.{shown-item, silent-item, silent-kept}
-use Rattle.ll_written.specs.Stored.{AreFew}
-use Rattle.ll_written.proofs.StoredLemmas.{few-length}
+use Rattle.ll_page_cache.specs.Stored.{AreFew}
+use Rattle.ll_page_cache.proofs.StoredLemmas.{few-length}
 use Rattle.ll_room.proofs.room.Room.accept_silently.Goals as goal
 
 pub drop_pages-requires : goal.drop_pages-requires

@@ -1,4 +1,4 @@
--- What was decided comes of the request, and the room goes on by it.
+-- The request gets what was decided, and the room takes it.
 use Rattle.std.proofs.Common.{ap, subst, ◌∙◌}
 use Rattle.ll_room.specs.RoomValue.{less, tickets}
 use Rattle.ll_room.specs.Decided.{IsDecided, reply_in}

@@ -1,13 +1,13 @@
--- The holders are those of just the requests that each release takes, and each of these gets its page.
+-- There is one reply for each request that a release takes, and each of these gets it.
 use Rattle.std.proofs.Common.{ap, length, subst, sym, ◌∙◌}
 use Rattle.ll_room.specs.RoomValue.{RoomValue}
 use Rattle.ll_room.specs.Kept.{IsKept}
 use Rattle.ll_room.specs.contracts.room.Room.{the_view}
-use Rattle.ll_written.specs.Stored.{AreFew}
+use Rattle.ll_page_cache.specs.Stored.{AreFew}
 use Rattle.ll_room.proofs.PublishLemmas.{changed-is, coming-of, has-those, has-those-after, kept-change, shown-item}
 use Rattle.ll_room.specs.Coming.{supply_in}
 use Rattle.ll_room.proofs.KeptLemmas.{few-events}
-use Rattle.ll_written.proofs.StoredLemmas.{few-length}
+use Rattle.ll_page_cache.proofs.StoredLemmas.{few-length}
 use Rattle.ll_room.proofs.room.Room.change.Goals as goal
 
 pub release_with-requires : goal.release_with-requires

@@ -1,3 +1,4 @@
+-- The requests whose time is over are settled, and all stay open.
 use Rattle.std.proofs.Common.{◌∙◌, ap, sym, subst, map, arith}
 use Rattle.ll_verdict.specs.Waiting.{ticket_in}
 use Rattle.ll_room.specs.RoomValue.{Stands}

@@ -1,3 +1,4 @@
+-- The request leaves, or it isn't open in this room.
 use Rattle.std.proofs.Common.{◌∙◌, ap, sym, subst, map, is_some}
 use Rattle.ll_verdict.specs.Waiting.{ticket_in}
 use Rattle.ll_room.specs.RoomValue.{Stands, less}

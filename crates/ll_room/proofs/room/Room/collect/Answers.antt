@@ -1,3 +1,4 @@
+-- The request leaves with its reply, or nothing changes.
 use Rattle.std.proofs.Common.{◌≡◌, ◌∙◌, ap, sym, subst, map, is_some, true, None}
 use Rattle.ll_verdict.specs.Waiting.{found, reply_at, ticket_in}
 use Rattle.ll_room.specs.RoomValue.{Stands, less}

@@ -1,4 +1,4 @@
--- Each decision is the reply at once, for the reason that the branch tells.
+-- Each decision is the reply at once, for the reason of its branch.
 use Rattle.std.proofs.Common.{Some, ap, cond, is_some, option_map, sym, ◌∙◌}
 use Rattle.ll_verdict.proofs.StateLemmas.{at_once-is}
 use Rattle.ll_verdict.specs.State.{state_of}

@@ -1,4 +1,4 @@
--- What its window tells of all its items.
+-- The window of a rendition determines it for all its items.
 use Rattle.std.proofs.Common.{◌≡◌, List, ap, subst, sym, ◌∙◌}
 use Rattle.std.specs.Prelude.{slice_index_or}
 use Rattle.ll_item.specs.declared.item.Item.{Item}

@@ -1,4 +1,4 @@
--- One is found where one is open.
+-- A request is found if it is open.
 use Rattle.std.proofs.Common.{◌∙◌, ap, is_some}
 use Rattle.ll_room.specs.Answers.{is_open}
 use Rattle.ll_verdict.proofs.WaitingLemmas.{open-found}

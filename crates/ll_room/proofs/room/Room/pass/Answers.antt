@@ -1,4 +1,4 @@
--- The room goes on by the request, whatever its reply is.
+-- The room takes the request, whatever its reply is.
 use Rattle.std.proofs.Common.{ap, subst}
 use Rattle.ll_room.specs.Decided.{IsDecided}
 use Rattle.ll_room.specs.RoomValue.{RoomValue}

@@ -1,4 +1,4 @@
--- What is kept tells why an item is refused.
+-- What is kept determines why an item is refused.
 use Rattle.std.proofs.Common.{sym, ◌∙◌}
 use Rattle.ll_room.proofs.AcceptLemmas.{refusal-told}
 use Rattle.ll_room.proofs.room.Room.publish.Goals as goal

@@ -1,4 +1,4 @@
--- Where the rendition stands is told by what is kept of it.
+-- What is kept of the rendition determines where it stands.
 use Rattle.std.proofs.Common.{ap, refl, slice_get, sym, ◌∙◌}
 use Rattle.std.proofs.lemmas.Option.{slice_get_read}
 use Rattle.ll_room.proofs.StandingLemmas.{stands-there}

@@ -1,4 +1,4 @@
--- No memory is found for a path: the lines before it are right, and so is its own.
+-- Out of memory for a path: the lines before it are right, and so is its own.
 use Rattle.ll_server.proofs.ConfigLemmas.{head-is, log-memory, record-memory}
 use Rattle.ll_server.proofs.config.Config.read.Goals as goal
 

@@ -1,4 +1,4 @@
--- Each line has a byte at least.
+-- Each line has at least one byte.
 use Rattle.std.proofs.Common.{◌+◌, ◌∙◌}
 use Rattle.ll_server.proofs.LineLemmas.{over-is}
 use Rattle.ll_server.proofs.lines.Lines.is_over.Goals as goal

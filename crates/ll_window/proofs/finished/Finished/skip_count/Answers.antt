@@ -1,4 +1,4 @@
--- A turn goes one segment towards the first; it ends where all segments before are skipped.
+-- A turn goes one segment towards the first; it ends once all segments before are skipped.
 use Rattle.std.proofs.Common.{◌-◌, ap, arith}
 use Rattle.ll_window.proofs.SkipLemmas.{goes-back, lasting-all, skipped-before}
 use Rattle.ll_window.proofs.finished.Finished.skip_count.Goals as goal

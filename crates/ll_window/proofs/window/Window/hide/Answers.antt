@@ -1,4 +1,4 @@
--- The far segments are those after which three target durations are.
+-- The far segments are those after which at least three target durations follow.
 use Rattle.std.proofs.Common.{ap, ◌∙◌}
 use Rattle.ll_window.proofs.KeptLemmas.{kept_relisted, short}
 use Rattle.ll_window.proofs.window.Window.hide.Goals as goal

@@ -1,4 +1,4 @@
--- Where the last part stands tells what is held.
+-- Which parts are there follows from the position of the last one.
 use Rattle.std.proofs.Common.{ap, ◌∙◌, sym}
 use Rattle.ll_window.proofs.WantLemmas.{held_by, part_told}
 use Rattle.ll_window.proofs.window.Window.holds_part.Goals as goal

@@ -1,4 +1,4 @@
--- How many segments are finished tells what is held.
+-- Which segments are there follows from how many are finished.
 use Rattle.std.proofs.Common.{◌≡◌, ◌&&◌, ap, ◌∙◌, sym, true, nat_lt, arith}
 use Rattle.std.proofs.lemmas.Bool.Decides.{nat_tests}
 use Rattle.ll_window.proofs.WantLemmas.{segment_told}

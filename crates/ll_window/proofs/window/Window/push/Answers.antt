@@ -1,4 +1,4 @@
--- Why an item may not follow is told by what is kept.
+-- The rule that refuses an item follows from what is kept.
 use Rattle.std.proofs.Common.{None, Some, ap}
 use Rattle.std.specs.Option.{option_map}
 use Rattle.ll_window.specs.declared.fault.PushError.TheVariants.{Refused}

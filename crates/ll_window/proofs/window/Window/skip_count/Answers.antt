@@ -1,4 +1,4 @@
--- Which segments are skipped does not turn on the parts that they list.
+-- Which segments are skipped does not depend on the parts that they list.
 use Rattle.std.proofs.Common.{ap, ◌∙◌}
 use Rattle.ll_window.proofs.ReaderLemmas.{skipped_are}
 use Rattle.ll_window.proofs.window.Window.skip_count.Goals as goal

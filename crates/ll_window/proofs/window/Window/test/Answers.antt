@@ -1,4 +1,4 @@
--- Why an item may not follow is told by what is kept.
+-- The rule that refuses an item follows from what is kept.
 use Rattle.std.proofs.Common.{None, Some}
 use Rattle.ll_window.proofs.StepLemmas.{refusal_told}
 use Rattle.ll_window.proofs.window.Window.test.Goals as goal

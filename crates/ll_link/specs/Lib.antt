@@ -1,6 +1,0 @@
-pub mod Answers
-pub mod Faults
-pub mod Heard
-pub mod Publishing
-pub mod Reads
-pub mod Serving

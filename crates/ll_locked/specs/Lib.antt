@@ -1,6 +1,0 @@
-pub mod Channel
-pub mod Ledgers
-pub mod Section
-pub mod Told
-pub use Rattle.ll_verdict.specs.Events
-pub use Rattle.ll_verdict.specs.Verdict

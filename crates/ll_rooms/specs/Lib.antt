@@ -1,6 +1,0 @@
-pub mod Book
-pub mod Kept
-pub mod Shelf
-pub mod Spots
-pub mod Waits
-pub mod World

@@ -1,7 +1,0 @@
--- There are few pieces of each rendition so far.
-use Rattle.std.proofs.Common.{◌≡◌, length, take}
-use Rattle.ll_written.specs.Stored.{AreFew}
-use Rattle.ll_written.proofs.written.trim.Given as goal
-
-abbrev pub invariant-loop-place : goal.invariant-loop-place
-invariant-loop-place l = (length l.pieces.items ≡ length l.renditions) × AreFew (take l.place l.pieces.items) (take l.place l.renditions)
