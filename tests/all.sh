@@ -1,23 +1,26 @@
 #!/usr/bin/env bash
-# Proves every crate from nothing, runs the crates' tests, looks for each must-fail edit in its file, for what crates.txt lists, and at what `make build` tells. Beside that, a tenth of the rows run as `rt try --cases` builds the program, with checks and
-# from the sources alone (`make try` runs all of them so). Once the program is proved, each row runs on it, as each compiler of the toolchain builds it; beside these, on the proved program, devices
-# that give and take a few bytes at a time, large inputs, mutated playlists, mutated records, records in format 2, entries that are explained, the bytes of connections cut in every way, connections that end too early, and mutated heads; calls whose memory is refused;
-# and the server's log, what is published to it and its records, which mostly wait. Then, by themselves, the server with real sockets, what stands in front of it, and a player that watches it. The last line is the sum.
+# Proves every crate from nothing, runs the crates' tests, and looks for each must-fail edit in its file, for what crates.txt lists, and at what `make
+# build` prints. Beside that, a tenth of the rows run on the program as `rt try --cases` builds it, with checks and from the sources alone (`make try`
+# runs all of them so). Once the program is proved, each row runs on it, as each compiler of the toolchain builds it. Beside these, the proved program
+# is tested with devices that give and take a few bytes at a time, large inputs, mutated playlists, mutated records, records in format 2, entries that
+# are explained, the bytes of connections cut in every way, connections that end too early, mutated heads, and calls whose memory is refused; and with
+# the server's log, what is published to it, and its records, which mostly wait. Then come, one at a time, the server with real sockets, what stands
+# in front of it, and a player that watches it. The last line is the sum, `N passed, M failed`.
 . "$(dirname "${BASH_SOURCE[0]}")/common.sh" || exit 2
 cd "$root" || exit 2
 . tests/copy.sh
 program=crates/llhls/out/llhls
-# The build of the second compiler, where it makes one.
+# The program as the second compiler builds it, if that one makes it.
 by_rattle=$program.by-rattle
 
-# show WORDS..: runs a command, and shows what it says as it comes.
+# show WORD..: runs a command, and shows its output as it comes.
 show() {
     echo "== $*"
     "$@" 2>&1 | tee "$log"
     add "${PIPESTATUS[0]}" "$log" "$@"
 }
 
-# begin WORDS..: runs a command beside others; `finish` shows what each has said, and adds its numbers.
+# begin WORD..: runs a command beside others; `finish` shows the output of each, and adds its numbers.
 commands=()
 begin() {
     local number=${#commands[@]}
@@ -25,7 +28,7 @@ begin() {
     { "$@" >"$room/$number" 2>&1; echo $? >"$room/$number.status"; } &
 }
 
-# start WORDS..: does so once a processor is free, beside those that mostly wait.
+# start WORD..: begins a command once a processor is free, not counting those that mostly wait.
 waiting=0
 start() {
     while [ "$(jobs -rp | wc -l)" -ge $(($(nproc) + waiting)) ]; do
@@ -48,10 +51,10 @@ finish() {
 start tests/edits_apply.py
 start tests/listed.py
 start tests/build_lines.sh
-# (With RT_JOBS a run doesn't plan several times the memory that a check takes, which would have fewer crates side by side.)
+# With RT_JOBS, a run doesn't plan with several times the memory that a check takes, which would have fewer crates side by side.
 lanes=${RT_JOBS:-$(nproc)}
 begin nice -n 5 tests/try_rows.sh 10
-# (a line for each crate, so that who waits sees that it goes on)
+# A line for each crate shows that the proofs go on.
 prove_chain "$room" crates.txt </dev/null > >(tell "$(grep -c '^[a-z]' crates.txt)") 2>&1
 echo "== rt ci"
 {
@@ -59,7 +62,7 @@ echo "== rt ci"
     echo "${PIPESTATUS[0]}" >"$room/proofs.status"
 } &
 proofs=$!
-# The program is tested as soon as it is proved: the last proofs leave processors idle.
+# The program is tested as soon as it is proved, since the last proofs leave processors idle.
 until grep -Eqs '^rt: llhls (proved$|is kept: )' "$room/proofs" || [ -e "$room/proofs.status" ]; do
     sleep 1
 done
@@ -67,6 +70,8 @@ for name in log push record; do
     begin "tests/$name.sh" "$program"
     waiting=$((waiting + 1))
 done
+begin tests/killed.py "$program" 20
+waiting=$((waiting + 1))
 for name in mutated_playlists mutated_records upgrades explained connections dropped mutated_heads short_devices large rows; do
     start "tests/$name.sh" "$program"
 done
@@ -75,7 +80,7 @@ if [ -e "$by_rattle" ]; then
 fi
 wait "$proofs"
 add "$(<"$room/proofs.status")" "$room/proofs" rt ci
-# (`rt ci` passes over an edit that doesn't compile, which says nothing of a contract.)
+# `rt ci` passes over an edit that doesn't compile, which says nothing of a contract.
 if grep -q '\.edit: BAD EDIT' "$room/proofs"; then
     fail 'a must-fail edit does not compile'
 fi
