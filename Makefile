@@ -1,4 +1,4 @@
-# README.md says more of each target. Each works from any folder, as `make -s -C FOLDER TARGET`.
+# docs/CONTRIBUTING.md says more of each target. Each works from any folder, as `make -s -C FOLDER TARGET`.
 HERE := $(dir $(lastword $(MAKEFILE_LIST)))
 PREFIX ?= /usr/local
 
@@ -56,4 +56,4 @@ demo: kit
 
 .PHONY: kit
 kit:
-	@command -v rt >/dev/null || { echo 'rt, the command of the Rattle kit, is not on the path: README.md, "Try it"' >&2; exit 1; }
+	@command -v rt >/dev/null || { echo 'rt, the command of the Rattle kit, is not on the path: README.md, "Run it"' >&2; exit 1; }

@@ -1,11 +1,10 @@
 #!/usr/bin/env bash
-# apply.sh [SEGMENTS..]: applies a delta update to a playlist that shows so many segments (100 and 20,000 where none are given;
-# 9 to 86,400), each of one part of a second. The update is 4 segments younger, and skips all but its last 7. For each number
-# it prints the bytes per second of `llhls apply`, the bytes of both files, and their ratio to the first number's; then the
-# peak memory, and the memory that a byte takes. Times are the median of RUNS runs (99 where it isn't set), less that of as
-# many runs that apply a playlist without segments to itself, which is the start of the program, each before one of the
-# others; after them stand the slower and the faster quartile. Memory is a median too, and for a byte less that of the
-# start. With few segments the start outweighs the rest, and the numbers say little. It judges nothing.
+# apply.sh [SEGMENTS..]: measures `llhls apply`, which applies a delta update to a playlist of SEGMENTS segments (by default 100 and 20,000; 9 to
+# 86,400), each of one part of a second. The update is 4 segments younger, and skips all but its last 7. For each number it prints the bytes per
+# second, the bytes of both files, and the ratio to the first number's; then the peak memory, and the memory that a byte takes. Times are the median
+# of RUNS runs (99 if it isn't set), less that of as many runs that apply a playlist without segments to itself, which is the start of the program,
+# each before one of the others; after them stand the slower and the faster quartile. Memory is a median too, and for a byte less that of the start.
+# With few segments the start outweighs the rest, and the numbers say little. It judges nothing.
 . "$(dirname "${BASH_SOURCE[0]}")/common.sh" || exit 2
 take_program_or_proved
 runs=${RUNS:-99}
@@ -14,8 +13,8 @@ if [ "$#" = 0 ]; then
 fi
 mkdir "$room/none" "$room/some"
 
-# make FOLDER SEGMENTS NEW WINDOW: makes base, delta and wanted there: a playlist after so many segments, then the update and
-# the playlist after so many new ones.
+# make FOLDER SEGMENTS NEW WINDOW: makes base, delta and wanted there: a playlist after SEGMENTS segments, then the update and the playlist after NEW
+# more.
 make() {
     awk -v segments="$2" -v new="$3" -v window="$4" '
         function publish(count) {
@@ -37,7 +36,7 @@ make() {
         !/^(ok|reply) / { print >file }' "$room/answers"
 }
 
-# apply: runs none and some in turn.
+# apply: runs the program without segments and with them, by turns.
 apply() {
     local run folder
     rm -f "$room"/*/measured

@@ -1,9 +1,10 @@
 #!/usr/bin/env bash
-# check.sh [ENTRIES..]: checks records of so many entries (100,000 and 1,000,000 where none are given; at least 40), in which each part of
-# a second is awaited by two players, one of whom asks for a delta update, and asked for by a third who waits for nothing; then records of ten times
-# as many entries that are requests for the playlist as it is, after ten segments; then of requests after windows of 10, 100 and 1,000 segments, which
-# should take the same time. Each record is in format 1, and is written in format 2 too, but for the last three. For each it prints the entries and the bytes per second of `llhls check` and of `llhls upgrade`, and the ratio to the first number's; then the peak
-# memory, and the memory that a byte of the record takes. Times are the median of RUNS runs (9 where it isn't set). It judges nothing.
+# check.sh [ENTRIES..]: measures `llhls check` and `llhls upgrade` with records of ENTRIES entries (by default 100,000 and 1,000,000; at least 40), in
+# which each part of a second is awaited by two players, one of whom asks for a delta update, and asked for by a third who waits for nothing; then
+# with records of ten times as many entries that are requests for the playlist as it is, after ten segments; then with requests after windows of 10,
+# 100 and 1,000 segments, which should take the same time. Each record is in format 1, and is written in format 2 too, but for the last three. For
+# each it prints the entries and the bytes per second of both commands, and the ratio to the first number's; then the peak memory, and the memory that
+# a byte of the record takes. Times are the median of RUNS runs (9 if it isn't set). It judges nothing.
 . "$(dirname "${BASH_SOURCE[0]}")/common.sh" || exit 2
 take_program_or_proved
 runs=${RUNS:-9}
@@ -11,7 +12,7 @@ if [ "$#" = 0 ]; then
     set -- 100000 1000000
 fi
 
-# make ENTRIES: makes a record of at least so many entries, in chunks of 10,000 or a little more.
+# make ENTRIES: makes a record of at least ENTRIES entries, in chunks of 10,000 or a little more.
 make() {
     awk -v entries="$1" '
         function begin() {
@@ -44,8 +45,8 @@ make() {
         }'
 }
 
-# make_plain ENTRIES [SEGMENTS]: makes a record of ten segments or so many, all of which are in the window where they are ten or more, and so many requests
-# for the playlist as it is, in one chunk.
+# make_plain ENTRIES [SEGMENTS]: makes a record, in one chunk, of SEGMENTS segments (by default ten), all of which are in the window if they are ten
+# or more, and ENTRIES requests for the playlist as it is.
 make_plain() {
     awk -v entries="$1" -v segments="${2:-10}" 'BEGIN {
         print "#LLHLS-CHUNK 1"
@@ -59,7 +60,7 @@ make_plain() {
     }'
 }
 
-# tell COMMAND ENTRIES BYTES: has a command go through the record again and again, and prints what that takes.
+# tell COMMAND ENTRIES BYTES: runs a command on the record again and again, and prints what that takes.
 declare -A first=()
 tell() {
     local run time
@@ -77,7 +78,7 @@ tell() {
         }'
 }
 
-# both MAKE ENTRIES: makes a record, has it checked and written in format 2, and checked in that format too.
+# both MAKE ENTRIES: makes a record, has it checked and written in format 2, and checks it in that format too.
 both() {
     local made bytes
     "$1" "$2" >"$room/record" 2>"$room/made"

@@ -1,8 +1,8 @@
-# What the benches share beside tests/common.sh; each sources it first of all. They judge nothing; where the program doesn't do what is measured, they end.
+# What the benches share beside tests/common.sh; each sources it first. They judge nothing; if the program doesn't do what is measured, they end.
 . "$(dirname "${BASH_SOURCE[0]}")/../tests/common.sh" || exit 2
 set -eo pipefail
 
-# take_program_or_proved [PATH]: sets `program`, to the proved one where none is named.
+# take_program_or_proved [PATH]: sets `program`, by default to the proved one.
 take_program_or_proved() {
     take_program "${1:-$("$root/tests/program.sh")}"
 }
@@ -13,7 +13,8 @@ wrong() {
     exit 1
 }
 
-# measure INPUT OUTPUT WORD..: runs the program `runs` times with these words, and prints a line for each run: the microseconds, and the peak memory in KiB.
+# measure INPUT OUTPUT WORD..: runs the program `runs` times with these words, and prints a line for each run: the microseconds, and the peak memory
+# in KiB.
 measure() {
     local run
     [ -e "$room/measure" ] || compile "$here/measure.c"
@@ -22,28 +23,28 @@ measure() {
     done
 }
 
-# replayed SCRIPT: such lines for `replay`; what it writes is left in `room/answers`.
+# replayed SCRIPT: prints such lines for `replay`, and leaves what that writes in `room/answers`.
 replayed() {
     measure "$1" "$room/answers" replay
 }
 
-# answers PATTERN: how many lines of `room/answers` are of this pattern.
+# answers PATTERN: prints how many lines of `room/answers` match the pattern.
 answers() {
     grep -cE "$1" "$room/answers" || true
 }
 
 # ---- two servers beside each other: the program, and another
 
-# The process of each server by its name.
+# The process of each server, by its name.
 declare -A process
 
-# load WORDS..: one run; its last line.
+# load WORD..: makes one run, and prints its last line.
 load() {
     timeout 120 "$room/load" "$@" | tail -n 1
 }
 
-# compare NAME UNIT COLUMN DIGITS [OTHER]: prints the medians of a column of the program's measured runs and of the yardstick's, or another server's, their
-# quartiles, and the ratio.
+# compare NAME UNIT COLUMN DIGITS [OTHER]: prints the medians of a column of the program's measured runs and of those of the yardstick, or of another
+# server, their quartiles, and the ratio.
 compare() {
     local server=${5:-yardstick} mine other
     mine=$(spread "$3" <"$room/program.runs")
@@ -61,7 +62,7 @@ compare() {
         }'
 }
 
-# ticks NAME: the processor time of a server and its workers so far.
+# ticks NAME: prints the processor time of a server and its workers so far.
 ticks() {
     local each=("${process[$1]}") pid
     for pid in $(pgrep -P "${process[$1]}"); do

@@ -1,10 +1,9 @@
 #!/usr/bin/env bash
-# connections.sh [REQUESTS]: asks as many times (20,000 where no number is given) for a playlist: by `get` lines, and by `bytes` lines of one head
-# each, of 200 and of 2,000 bytes. It prints the requests per second, and their ratio to those of `get` lines: the price of heads and
-# sessions. Then it feeds the heads of 200 bytes to one connection in pieces of 1, 100 and 30,000 bytes, a tenth of them and all (for pieces of
-# 1 byte a hundredth and a tenth): it prints the time for each head, and its ratio to that of the smaller number, which is near 1 if a head doesn't
-# cost more the more came before. Times are the median of RUNS runs (3 where it isn't set), less that of a script without requests.
-# It judges nothing.
+# connections.sh [REQUESTS]: asks REQUESTS times (by default 20,000) for a playlist: by `get` lines, and by `bytes` lines of one head each, of 200 and
+# of 2,000 bytes. It prints the requests per second, and their ratio to those of `get` lines: the price of heads and sessions. Then it feeds the heads
+# of 200 bytes to one connection in pieces of 1, 100 and 30,000 bytes, a tenth of them and all (for pieces of 1 byte a hundredth and a tenth). It
+# prints the time for each head, and its ratio to that of the smaller number, which is near 1 if a head costs no more the more came before. Times are
+# the median of RUNS runs (3 if it isn't set), less that of a script without requests. It judges nothing.
 . "$(dirname "${BASH_SOURCE[0]}")/common.sh" || exit 2
 take_program_or_proved
 runs=${RUNS:-3}
@@ -15,13 +14,14 @@ opening() {
     echo 'pub cam part hi 10000 i'
 }
 
-# gets COUNT
+# gets COUNT: prints a script of COUNT `get` lines.
 gets() {
     opening
     awk -v count="$1" 'BEGIN { for (n = 1; n <= count; n++) print "get " n " /cam/hi/live.m3u8" }'
 }
 
-# heads COUNT BYTES PIECE: heads of so many bytes, one after another on one connection, cut into pieces; a piece of 0 is a head.
+# heads COUNT BYTES PIECE: prints a script of COUNT heads of BYTES bytes, one after another on one connection, cut into pieces of PIECE bytes; 0 makes
+# each head a piece.
 heads() {
     opening
     LC_ALL=C awk -v count="$1" -v bytes="$2" -v piece="$3" '
@@ -43,7 +43,7 @@ heads() {
     }'
 }
 
-# taken COUNT: the time of room/script, which has so many requests, each of which gets a playlist.
+# taken COUNT: prints the time of room/script, which has COUNT requests, each of which gets a playlist.
 taken() {
     local with answered
     with=$(replayed "$room/script" | median)

@@ -1,14 +1,14 @@
 #!/usr/bin/env bash
-# growth.sh: how costs grow. For each kind of work it runs a small and a large input, and prints the time per unit of both, less the
-# start of the program, and their ratio: about 1 where the cost is linear. Where a run takes less than five times what the start
-# varies by, it prints "too short to tell". Times are the median of RUNS runs (9 where it isn't set). It judges nothing.
+# growth.sh: measures how costs grow. For each kind of work it runs a small and a large input, and prints the time per unit of both, less the start of
+# the program, and their ratio: about 1 if the cost is linear. If a run takes less than five times what the start varies by, it prints "too short to
+# tell". Times are the median of RUNS runs (9 if it isn't set). It judges nothing.
 . "$(dirname "${BASH_SOURCE[0]}")/common.sh" || exit 2
 take_program_or_proved
 runs=${RUNS:-9}
 settings='target=4 part=1000000 skip=24 window=36 renditions=hi first=0 start=0'
 start_date='START-DATE="1970-01-01T00:00:00Z"'
 
-# times WORD..: runs the program on the file `script`; prints the median of the times in microseconds, and their smaller and their larger quartile.
+# times WORD..: runs the program on the file `script`, and prints the median of the times in microseconds, and their smaller and larger quartile.
 times() {
     measure "$room/script" "$room/answers" "$@" | spread
 }
@@ -18,7 +18,7 @@ read -r start smaller larger _ < <(times replay)
 noise=$((larger - smaller))
 echo "start: $start us, which varies by $noise us"
 
-# compare NAME UNIT SMALL LARGE MAKE WORDS..: makes both inputs by MAKE COUNT and measures them.
+# compare NAME UNIT SMALL LARGE MAKE WORD..: makes both inputs by MAKE COUNT and measures them.
 compare() {
     local name=$1 unit=$2 small=$3 large=$4 make=$5 first second
     shift 5
@@ -35,7 +35,7 @@ compare() {
         }'
 }
 
-# So many channels, and 40 parts for each, one channel after another.
+# COUNT channels, and 40 parts for each, one channel after another.
 channels() {
     awk -v n="$1" -v settings="$settings" 'BEGIN {
         for (c = 1; c <= n; c++) print "channel c" c " " settings
@@ -43,7 +43,7 @@ channels() {
     }' >"$room/script"
 }
 
-# So many date ranges, and a hundred playlists that list them.
+# COUNT date ranges, and a hundred playlists that list them.
 listed() {
     awk -v n="$1" -v settings="$settings" -v date="$start_date" 'BEGIN {
         print "channel cam " settings
@@ -52,7 +52,7 @@ listed() {
     }' >"$room/script"
 }
 
-# So many date ranges that are added and removed, without any part.
+# COUNT date ranges that are added and removed, without any part.
 removals() {
     awk -v n="$1" -v settings="$settings" -v date="$start_date" 'BEGIN {
         print "channel cam " settings
@@ -60,7 +60,7 @@ removals() {
     }' >"$room/script"
 }
 
-# A hundred lines with so many attributes each.
+# A hundred lines with COUNT attributes each.
 attributes() {
     awk -v n="$1" -v settings="$settings" -v date="$start_date" 'BEGIN {
         print "channel cam " settings
@@ -72,7 +72,7 @@ attributes() {
     }' >"$room/script"
 }
 
-# A playlist with one date range of so many attributes, which is applied to itself.
+# A playlist with one date range of COUNT attributes, which is applied to itself.
 long_line() {
     : >"$room/script"
     awk -v n="$1" -v date="$start_date" 'BEGIN {

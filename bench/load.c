@@ -4,18 +4,18 @@
 
    A load for `llhls serve` and for bench/yardstick.c, on loopback: channel `cam`, rendition `hi`, parts of a second, four to a segment.
 
-   present: so many kept connections, of which each asks for the playlist again as soon as its answer is whole. Half of the processors ask, each
-   for its share of the connections, so that it is the server that is measured. It prints the answers a second, and the 50th and the 99th percentile
+   present: CONNECTIONS kept connections, each of which asks for the playlist again as soon as its answer is whole. Half of the processors ask, each
+   for its share of the connections, so that it is the server that is measured. It prints the answers per second, and the 50th and the 99th percentile
    of the time from request to whole answer in microseconds. What comes before each connection of a share has had an answer doesn't count.
 
-   media: the same with this file in the playlist's folder, whose answer has so many bytes: 0, 1, 2 .. 250, and from 0 on again.
+   media: the same with FILE in the playlist's folder, whose answer has LENGTH bytes: 0, 1, 2 .. 250, and from 0 on again.
 
-   held: in each round so many kept connections ask for the next part. When all requests are written, and some milliseconds after, it publishes the
+   held: in each round WAITING kept connections ask for the next part. Some milliseconds after all requests are written, it publishes the
    part. It prints the milliseconds from there to the first, the median and the last whole answer, and at the end, after the word `median`, the
    medians of the rounds.
 
-   Each answer is looked at: status 200, as many bytes as it tells, a playlist, or each byte of the media; of a held one also that it lists the part, and that all are equal.
-   The first wrong one ends the program with a message and status 1; so do 20 seconds in which nothing comes. */
+   Each answer is checked: status 200, as many bytes as it announces, a playlist, or each byte of the media; of a held one also that it lists the part, and that all are equal.
+   The first wrong answer ends the program with a message and status 1; so do 20 seconds in which nothing comes. */
 #include <arpa/inet.h>
 #include <errno.h>
 #include <fcntl.h>
@@ -42,11 +42,11 @@
 struct peer {
     int socket;
     int waits;      /* its answer isn't whole yet */
-    double asked;   /* when, in microseconds */
-    char *text;     /* what came of its answer, and a 0 */
+    double asked;   /* when it asked, in microseconds */
+    char *text;     /* what came of its answer so far, and a 0 */
     size_t length, room;
     size_t head;    /* bytes of its head with the empty line, 0 while that isn't whole */
-    size_t body;    /* bytes that the head tells of */
+    size_t body;    /* bytes that the head announces */
 };
 
 static __thread int events_of_all;   /* the epoll of a thread */
@@ -82,7 +82,7 @@ static int in_order(const void *a, const void *b)
     return (x > y) - (x < y);
 }
 
-/* The value of which so large a share of the sorted values is at most as large. */
+/* Returns the value that this share of the sorted values doesn't exceed. */
 static double percentile(const double *sorted, size_t count, double share)
 {
     size_t place = (size_t)(share * (double)count);
@@ -96,7 +96,7 @@ static double median(double *values, size_t count)
     return count % 2 ? values[count / 2] : (values[count / 2 - 1] + values[count / 2]) / 2;
 }
 
-/* A connection to this port, on which a call that can't go on waits at most PATIENCE_MS. */
+/* Returns a connection to this port, on which a call that can't go on waits at most PATIENCE_MS. */
 static int connection(int port)
 {
     struct sockaddr_in to = { .sin_family = AF_INET, .sin_port = htons((unsigned short)port), .sin_addr.s_addr = htonl(INADDR_LOOPBACK) };
@@ -149,7 +149,7 @@ static void ask(struct peer *p)
     write_all(p->socket, request, request_length);
 }
 
-/* Looks at the head once it is whole. */
+/* Reads the head once it is whole. */
 static void read_head(struct peer *p)
 {
     static const char status[] = "HTTP/1.1 200 OK\r\n", field[] = "\r\nContent-Length: ";
@@ -166,7 +166,7 @@ static void read_head(struct peer *p)
     p->body = strtoul(length + sizeof field - 1, NULL, 10);
 }
 
-/* Reads what came of an answer, at most so much; how many bytes that is. */
+/* Reads what came of an answer, at most `most` bytes. Returns how many bytes these are. */
 static size_t receive(struct peer *p, char *to, size_t most)
 {
     ssize_t n = recv(p->socket, to, most, MSG_DONTWAIT);
@@ -182,7 +182,7 @@ static size_t receive(struct peer *p, char *to, size_t most)
     return (size_t)n;
 }
 
-/* Room for more of its text. */
+/* Makes room for more of its text. */
 static void make_room(struct peer *p)
 {
     if (p->room - p->length < 4096) {
@@ -193,7 +193,7 @@ static void make_room(struct peer *p)
     }
 }
 
-/* Takes what came; tells whether the answer is whole now. */
+/* Takes what came. Returns whether the answer is whole now. */
 static int take(struct peer *p)
 {
     size_t n;
@@ -216,14 +216,14 @@ static int take(struct peer *p)
     return 1;
 }
 
-/* These bytes are those of the media from a place on. */
+/* Checks that these bytes are those of the media from a place on. */
 static void compare_media(const char *bytes, size_t length, size_t from)
 {
     if (from + length > media_length || memcmp(bytes, media + from % PERIOD, length) != 0)
         fail("other media in the %zu bytes from %zu on", length, from);
 }
 
-/* The same of an answer with media, of which the head alone is kept, and what came with it. */
+/* Does the same for an answer with media, of which only the head is kept, with what came with it. */
 static int take_media(struct peer *p)
 {
     static __thread char bytes[PIECE];
@@ -255,7 +255,7 @@ static int take_media(struct peer *p)
     return 1;
 }
 
-/* The events that are there, at least one. */
+/* Waits for events. Returns how many there are, at least one. */
 static int some_events(struct epoll_event *events, int most)
 {
     int count;
@@ -268,7 +268,7 @@ static int some_events(struct epoll_event *events, int most)
     return count;
 }
 
-/* The connections of one thread, and what came of them: the times from request to whole answer, and how many answers a second. */
+/* The connections of one thread, and its results: the times from request to whole answer, and the answers per second. */
 struct share {
     pthread_t thread;
     int port, connections;
@@ -289,7 +289,7 @@ static void add_time(struct share *s, double time)
     s->times[s->count++] = time;
 }
 
-/* Has all connections of a share ask, and again, for so long; `taken` takes what came of an answer. */
+/* Has all connections of a share ask again and again, as long as the share says; `taken` takes what came of an answer. */
 static void *ask_on(void *given)
 {
     struct share *s = given;
@@ -318,7 +318,7 @@ static void *ask_on(void *given)
     return NULL;
 }
 
-/* Shares the connections out, and prints what comes of all of them. */
+/* Shares out the connections, and prints the results of all of them. */
 static void ask_all(int port, int connections, double seconds, int (*taken)(struct peer *))
 {
     static struct share shares[64];
@@ -356,7 +356,7 @@ static void set_media(const char *file, size_t length)
     request_length = (size_t)snprintf(request, sizeof request, "GET " FOLDER "%.60s HTTP/1.1\r\nHost: a\r\n\r\n", file);
 }
 
-/* The next part, as the hint of the present playlist has it. */
+/* Sets the next part, from the hint of the present playlist. */
 static void next_part(int port, long *segment, long *part)
 {
     static const char hint[] = "#EXT-X-PRELOAD-HINT:TYPE=PART,URI=\"s";
@@ -401,7 +401,7 @@ static void read_ok(int publisher)
         fail("the publisher's answer is %.*s", (int)length - 1, line);
 }
 
-/* All answers are those that have this part, and equal. */
+/* Checks that all answers have this part, and are equal. */
 static void compare(const struct peer *peers, int count, long segment, long part)
 {
     char line[60];
@@ -415,7 +415,7 @@ static void compare(const struct peer *peers, int count, long segment, long part
             fail("two answers of one part differ");
 }
 
-/* One round: first, median and last in milliseconds. */
+/* Makes one round, and notes its first, median and last time in milliseconds. */
 static void hold(struct peer *peers, int count, int publisher, long segment, long part, double *times, double *taken)
 {
     struct epoll_event events[512];

@@ -1,5 +1,5 @@
 /* measure INPUT OUTPUT PROGRAM WORD..: runs a program, and prints how many microseconds it took and its peak memory in
-   KiB (of which this one's own, about 1,000, is the least that it can tell). It ends with 1 where the program failed. */
+   KiB (at least its own, which is about 1,000). It ends with 1 if the program failed. */
 #include <fcntl.h>
 #include <stdio.h>
 #include <sys/resource.h>

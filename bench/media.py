@@ -1,9 +1,9 @@
-"""media.py grow PORT PROCESS COUNT SIZE: publishes so many parts of so many bytes to the channel `cam` on one connection, each when the one before it is answered, four to a
-segment, and prints after each tenth of them the resident memory of the server, and how many bytes it took in a second. The last three lines say the same of all; how much more
-memory the server has than at the start, and how much media its window of 36 seconds has; and whether the memory still grows: whether it is larger after the last tenth than at
-half time by more than a hundredth, and 256 KB.
+"""media.py grow PORT PROCESS COUNT SIZE: publishes COUNT parts of SIZE bytes to the channel `cam` on one connection, each when the one before it is answered, four to a
+segment, and prints after each tenth of them the resident memory of the server, and how many bytes per second it took. The last three lines say the same of all parts; how much
+more memory the server has than at the start, and how much media its window of 36 seconds has; and whether the memory still grows: whether it is larger after the last tenth than
+at half time by more than a hundredth and 256 KB.
 
-media.py fill PORT FLAGS:SIZE..: publishes such parts. The bytes of each segment are 0, 1, 2 .. 250, and from 0 on again, as bench/load.c wants them."""
+media.py fill PORT FLAGS:SIZE..: publishes parts with these flags and sizes. The bytes of each segment are 0, 1, 2 .. 250, and from 0 on again, as bench/load.c expects."""
 import socket
 import sys
 import time
@@ -14,7 +14,7 @@ PERIOD = 251
 
 
 def resident(process):
-    """The resident memory of a process in KB."""
+    """Returns the resident memory of a process in KB."""
     with open(f"/proc/{process}/status") as status:
         return next(int(line.split()[1]) for line in status if line.startswith("VmRSS:"))
 

@@ -1,12 +1,18 @@
 #!/usr/bin/env bash
-# media.sh [COUNT [SIZE [PROGRAM]]]: media, published to `llhls serve` (or `PROGRAM serve`) and asked for on loopback. It prints
-# - where so many parts (10,000) of so many bytes (100,000) are published one after another, after each tenth the server's resident memory and the bytes that it took in a
-#   second; at the end how much more memory it has than at its start beside the media of its window, some 40 parts of a second each, and whether it still grows;
-# - the same of 400 parts of 1,048,576 bytes, the most that a part may have, without the tenths;
-# - of the program, of bench/yardstick.c, which has the same media in its memory and sends each answer by one writev, and as a ratio: the bytes that they send in a second where 1
-#   and 64 kept connections ask for a part of 300,000 bytes, one of 1,000,000, and a segment of four parts with as many; and the processor time, the kernel's part too, that a
-#   gigabyte takes the server. They are asked in turn. Numbers are the median of RUNS runs (5 where it isn't set) of LENGTH seconds (1); after it stand the smaller and the larger
-#   quartile. Where the quartiles of one server are further apart than half its median, it prints "too short to tell" in place of the ratio.
+# media.sh [COUNT [SIZE [PROGRAM]]]: measures media that is published to `llhls serve` (or `PROGRAM serve`) and asked for on loopback. It prints
+#
+# - for COUNT parts (10,000) of SIZE bytes (100,000) that are published one after another: after each tenth the server's resident memory and the bytes
+# per second that it took; at the end how much more memory it has than at its start beside the media of its window, some 40 parts of a second each,
+# and whether it still grows;
+#
+# - the same for 400 parts of 1,048,576 bytes, the most that a part can have, without the tenths;
+#
+# - of the program, of bench/yardstick.c, which has the same media in its memory and sends each answer by one writev, and as a ratio: the bytes per
+# second that they send if 1 and 64 kept connections ask for a part of 300,000 bytes, one of 1,000,000, and a segment of four parts with as many; and
+# the processor time, including the kernel's, that the server takes for a gigabyte. They are asked by turns. Numbers are the median of RUNS runs (5 if
+# it isn't set) of LENGTH seconds (1); after it stand the smaller and the larger quartile. If the quartiles of one server are further apart than half
+# its median, it prints "too short to tell" in place of the ratio.
+#
 # It judges nothing. At least 0.8 of the yardstick is wanted.
 . "$(dirname "${BASH_SOURCE[0]}")/common.sh" || exit 2
 take_program_or_proved "${3-}"
@@ -18,14 +24,14 @@ compile "$here/load.c" -pthread
 compile "$here/yardstick.c" -pthread
 channel='channel cam target=4 part=1000000 skip=24 window=36 renditions=hi first=0 start=0'
 
-# grow COUNT SIZE: such parts to a server of its own.
+# grow COUNT SIZE: publishes COUNT parts of SIZE bytes to a server of its own.
 grow() {
     serve "$program" 'workers 64' "$channel" >&2
     python3 "$here/media.py" grow "$publish_port" "$server" "$@"
     stop
 }
 
-# start NAME FILE: starts a server, and publishes what it is asked for.
+# start NAME FILE: starts a server, and publishes the media that it is asked for.
 start() {
     log=$room/$1.log
     serve "$2" 'workers 64' "$channel" >&2
@@ -33,7 +39,7 @@ start() {
     python3 "$here/media.py" fill "$publish_port" if:300000 if:1000000 i:250000 -:250000 -:250000 f:250000
 }
 
-# sent NAME CONNECTIONS FILE BYTES: one run; the megabytes in a second, and the seconds of processor time for a gigabyte.
+# sent NAME CONNECTIONS FILE BYTES: prints of one run the megabytes per second, and the seconds of processor time for a gigabyte.
 sent() {
     local before line
     before=$(ticks "$1")

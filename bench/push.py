@@ -1,8 +1,8 @@
 #!/usr/bin/env python3
 """What bench/push.sh needs beside the shell.
 
-push.py input COUNT BYTES MILLIS    writes a movie and so many fragments, each of about so many bytes and of so many milliseconds, one in twenty of which begins with a sync sample
-push.py origin FILE                 is an origin for one connection: writes its port to FILE, and accepts each message, whose bytes it passes over; its rendition has no parts
+push.py input COUNT BYTES MILLIS    writes a movie and COUNT fragments of about BYTES bytes and MILLIS milliseconds each, one in twenty of which begins with a sync sample
+push.py origin FILE                 is an origin for one connection: writes its port to FILE, and accepts each message, whose bytes it skips; its rendition has no parts
 """
 import os
 import pathlib

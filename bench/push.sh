@@ -1,12 +1,14 @@
 #!/usr/bin/env bash
-# push.sh [PROGRAM]: `llhls push` (or `PROGRAM push`) of a stream to an origin on loopback that passes over what it gets, where fragments are whole parts of 1,000,000 bytes (1,000 of them), and where they are frames of 20,000 bytes, 25 of
-# which make a part (20,000 of them). For each it prints the megabytes of input in a second of its processor time and of the clock, and those of `cat` to nowhere; numbers are the median of RUNS runs (5 where it isn't set). Then the peak memory. It
-# judges nothing. At least 1,000 MB in a second of processor time are wanted of parts, and 200 of frames.
+# push.sh [PROGRAM]: measures `llhls push` (or `PROGRAM push`) of a stream to an origin on loopback that skips what it gets: with fragments that are
+# whole parts of 1,000,000 bytes (1,000 of them), and with fragments that are frames of 20,000 bytes, 25 of which make a part (20,000 of them). For
+# each it prints the megabytes of input per second of its processor time and of the clock, and those of `cat` to nowhere; numbers are the median of
+# RUNS runs (5 if it isn't set). Then it prints the peak memory. It judges nothing. At least 1,000 MB per second of processor time are wanted of
+# parts, and 200 of frames.
 . "$(dirname "${BASH_SOURCE[0]}")/common.sh" || exit 2
 take_program_or_proved "${1-}"
 runs=${RUNS:-5}
 
-# timed WORD..: runs a command on the input; the microseconds that it took, those of a processor, and the KiB of memory.
+# timed WORD..: runs a command on the input, and prints the microseconds that it took, those of a processor, and the KiB of memory.
 timed() {
     python3 -c '
 import os, sys, time
@@ -21,7 +23,7 @@ if status:
 print(int((time.monotonic() - began) * 1e6), int((used.ru_utime + used.ru_stime) * 1e6), used.ru_maxrss)' "$@"
 }
 
-# pushed NAME COUNT BYTES MILLIS
+# pushed NAME COUNT BYTES MILLIS: measures a stream of COUNT fragments of BYTES bytes and MILLIS milliseconds each.
 pushed() {
     local run size
     size=$(python3 "$here/push.py" input "${@:2}" | wc -c)

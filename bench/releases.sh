@@ -1,14 +1,14 @@
 #!/usr/bin/env bash
-# releases.sh [PROGRAM]: what an item costs that releases a held request, in a channel of one rendition and of eight, of which each has a full window and 0 or 100 date
-# ranges. A script holds a request for the next part and publishes it, 2,000 times, with every fourth part finishing its segment. It prints the microseconds an item with
-# its request, less those of the same script before these, and the ratio of eight renditions to one. Times are the median of RUNS runs (9 where it isn't set). It judges
-# nothing.
+# releases.sh [PROGRAM]: measures what an item costs that releases a held request, in a channel of one rendition and of eight, each with a full window
+# and 0 or 100 date ranges. A script holds a request for the next part and publishes it, 2,000 times, with every fourth part finishing its segment. It
+# prints the microseconds for an item with its request, less those of the same script before these, and the ratio of eight renditions to one. Times
+# are the median of RUNS runs (9 if it isn't set). It judges nothing.
 . "$(dirname "${BASH_SOURCE[0]}")/common.sh" || exit 2
 take_program_or_proved "$@"
 runs=${RUNS:-9}
 items=2000
 
-# releasing RENDITIONS RANGES ITEMS: such a script.
+# releasing RENDITIONS RANGES ITEMS: prints such a script.
 releasing() {
     awk -v renditions="$1" -v ranges="$2" -v items="$3" 'BEGIN {
         for (r = 1; r <= renditions; r++) names = names (r > 1 ? "," : "") "r" r
@@ -24,7 +24,7 @@ releasing() {
     }' >"$room/script"
 }
 
-# an_item RENDITIONS RANGES: the microseconds of an item with its request.
+# an_item RENDITIONS RANGES: prints the microseconds of an item with its request.
 an_item() {
     local all start
     releasing "$1" "$2" 0

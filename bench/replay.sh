@@ -1,10 +1,10 @@
 #!/usr/bin/env bash
-# replay.sh [PARTS..]: publishes so many parts (10,000 and 100,000 where none are given), four to a segment, and asks for
-# the playlist once, at the end, which shows the last nine segments. For each number it prints the events per second, and
-# their ratio to the first number's; then the peak memory, and the memory that a part takes, for which it leaves out the
-# request. Times are the median of RUNS runs (9 where it isn't set), less that of a script without parts, which is the start
-# of the program; after them stand the slowest and the fastest run. Memory is a median too, and for a part less that of the
-# script without parts. With few parts the start outweighs the rest, and the numbers say little. It judges nothing.
+# replay.sh [PARTS..]: measures `llhls replay` of a script that publishes PARTS parts (by default 10,000 and 100,000), four to a segment, and asks for
+# the playlist once, at the end, which shows the last nine segments. For each number it prints the events per second, and their ratio to the first
+# number's; then the peak memory, and the memory that a part takes, for which it leaves out the request. Times are the median of RUNS runs (9 if it
+# isn't set), less that of a script without parts, which is the start of the program; after them stand the slowest and the fastest run. Memory is a
+# median too, and for a part less that of the script without parts. With few parts the start outweighs the rest, and the numbers say little. It judges
+# nothing.
 . "$(dirname "${BASH_SOURCE[0]}")/common.sh" || exit 2
 take_program_or_proved
 runs=${RUNS:-9}
@@ -12,7 +12,7 @@ if [ "$#" = 0 ]; then
     set -- 10000 100000
 fi
 
-# publish PARTS: a script without a request.
+# publish PARTS: prints a script of PARTS parts without a request.
 publish() {
     awk -v parts="$1" 'BEGIN {
         print "channel cam target=1 part=250000 skip=6 window=9 renditions=hi first=0 start=0"
@@ -21,7 +21,8 @@ publish() {
     }'
 }
 
-# replay SCRIPT: sets `time`, `fastest` and `slowest` to the median, the least and the largest time in microseconds, and `peak` to the median of the peak memory in KiB.
+# replay SCRIPT: sets `time`, `fastest` and `slowest` to the median, the least and the largest time in microseconds, and `peak` to the median of the
+# peak memory in KiB.
 replay() {
     replayed "$1" >"$room/measured"
     read -r time _ _ fastest slowest < <(spread <"$room/measured")

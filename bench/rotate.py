@@ -1,4 +1,4 @@
-"""rotate.py PUBLISHERS RECORDS: publishes parts of channel cam by one connection until so many records are full, and prints a line for each:
+"""rotate.py PUBLISHERS RECORDS: publishes parts of channel cam by one connection until RECORDS records are full, and prints a line for each part:
 the seconds since the first, and the microseconds to its answer.
 """
 import gc

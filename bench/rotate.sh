@@ -1,27 +1,27 @@
 #!/usr/bin/env bash
-# rotate.sh [PROGRAM]: how long a publish waits behind the handing out of a full record, in `llhls serve` (or `PROGRAM serve`) on loopback. One
-# publisher sends a part as soon as the last one is answered, until RECORDS records (4 where it isn't set) of 65,536 items and readings are full; once
-# without a line `record` in the settings, where a record is made and dropped, and once with it, where it goes to a file in a temporary folder.
+# rotate.sh [PROGRAM]: measures how long a publisher waits while a full record is handed out, in `llhls serve` (or `PROGRAM serve`) on loopback. One
+# publisher sends a part as soon as the last one is answered, until RECORDS records (4 if it isn't set) of 65,536 items and readings are full; once
+# without a line `record` in the settings, so that a record is made and dropped, and once with it, so that it goes to a file in a temporary folder.
 # For each it prints the median time to an answer, the 99th percentile, and the longest that the answers at a full record took: of one record as the
 # median, and of all. It judges nothing.
 . "$(dirname "${BASH_SOURCE[0]}")/common.sh" || exit 2
 take_program_or_proved "${1-}"
 records=${RECORDS:-4}
 
-# publish [LINE]: a server with this line in its settings, and the times of the answers of its publisher.
+# publish [LINE]: runs a server with this line in its settings, and prints the times of the answers of its publisher.
 publish() {
     serve "$program" 'workers 4' "$@" 'channel cam target=4 part=1000000 skip=24 window=36 renditions=hi first=0 start=0' >&2
     python3 "$here/rotate.py" "$publish_port" "$records" >"$room/times"
     stop
 }
 
-# places_in_memory: the numbers of the items that may have met a full record, a first and a last one for each record. Readings count as well, and
-# there are about four of them a second.
+# places_in_memory: prints the numbers of the items that may have met a full record, a first and a last one for each record. Readings count as well,
+# and there are about four of them a second.
 places_in_memory() {
     awk '{ since[NR] = $1 } NR % 65536 == 0 { print NR + 1 - int(5 * $1 + 10), NR + 1 }' "$room/times"
 }
 
-# places_in_file: the same by the record itself. A record that the clock handed out isn't full.
+# places_in_file: prints the same from the record itself. A record that the clock handed out isn't full.
 places_in_file() {
     awk '
         /^P / { items++ }
@@ -29,7 +29,7 @@ places_in_file() {
         /^#END$/ { if (calls == 65536) print items + 1, items + 1; calls = 0 }' "$room/record.cam"
 }
 
-# tell NAME: the times of the answers, and those of the answers at the places on standard input.
+# tell NAME: prints the times of the answers, and those of the answers at the places on standard input.
 tell() {
     awk '
         FILENAME == "-" {

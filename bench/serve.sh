@@ -1,15 +1,20 @@
 #!/usr/bin/env bash
-# serve.sh [PROGRAM]: puts one load on `llhls serve` (or `PROGRAM serve`) and on bench/yardstick.c, a plain server with a thread for each
-# connection, both on loopback and both after the same 44 parts, in turn. It prints, of each and as a ratio:
-# - where 1, 64 and 512 kept connections ask for the present playlist, from half of the processors: the answers per second, the 50th and 99th percentile of the time to an
-#   answer, and the processor time, the kernel's part too, that the server takes for one (which other work on the machine disturbs less);
-# - where 100, 1,000 and 4,000 connections wait for a part (fewer where `ulimit -n` doesn't allow as many, and it says so): the milliseconds from
-#   its publication to the first, the median and the last answer;
-# and the peak memory of both. The program has 4,096 workers, the yardstick a thread for each connection that it has. Where nginx is installed, it is asked
+# serve.sh [PROGRAM]: puts one load on `llhls serve` (or `PROGRAM serve`) and on bench/yardstick.c, a plain server with a thread for each connection,
+# both on loopback and both after the same 44 parts, by turns. It prints, of each and as a ratio,
+#
+# - if 1, 64 and 512 kept connections ask for the present playlist, from half of the processors: the answers per second, the 50th and 99th percentile
+# of the time to an answer, and the processor time, including the kernel's, that the server takes for an answer (which other work on the machine
+# disturbs less);
+#
+# - if 100, 1,000 and 4,000 connections wait for a part (fewer if `ulimit -n` doesn't allow as many, and it says so): the milliseconds from its
+# publication to the first, the median and the last answer;
+#
+# and the peak memory of both. The program has 4,096 workers, the yardstick a thread for each of its connections. If nginx is installed, it is asked
 # for the same playlist, as a file, by the same connections.
-# Numbers are the median of RUNS runs (5 where it isn't set), of LENGTH seconds (1) or of 5 parts each; after it stand the smaller and the larger
-# quartile. Where the quartiles of one server are further apart than half its median, it prints "too short to tell" in place of the ratio.
-# It judges nothing.
+#
+# Numbers are the median of RUNS runs (5 if it isn't set), of LENGTH seconds (1) or of 5 parts each; after it stand the smaller and the larger
+# quartile. If the quartiles of one server are further apart than half its median, it prints "too short to tell" in place of the ratio. It judges
+# nothing.
 . "$(dirname "${BASH_SOURCE[0]}")/common.sh" || exit 2
 take_program_or_proved "${1-}"
 runs=${RUNS:-5}
@@ -42,7 +47,7 @@ start() {
     exec {publisher}>&-
 }
 
-# start_nginx: starts nginx, which gives the present playlist as a file, where it is installed.
+# start_nginx: starts nginx, which gives the present playlist as a file, if it is installed.
 start_nginx() {
     local target=/cam/hi/live.m3u8 tries
     if ! command -v nginx >/dev/null; then
@@ -76,7 +81,7 @@ END
     echo "nginx doesn't start: $(tail -n 1 "$room/nginx.log")"
 }
 
-# present NAME CONNECTIONS: one run; its line, and the microseconds of processor time for an answer.
+# present NAME CONNECTIONS: prints the line of one run, and the microseconds of processor time for an answer.
 present() {
     local before line
     before=$(ticks "$1")
@@ -84,7 +89,7 @@ present() {
     echo "$line" | awk -v ticks=$(($(ticks "$1") - before)) -v hertz="$(getconf CLK_TCK)" -v length_s="$length" '{ print $0, ticks * 1e6 / hertz / ($1 * length_s) }'
 }
 
-# measure_present CONNECTIONS: has the servers asked for the present playlist, in turn.
+# measure_present CONNECTIONS: has the servers asked for the present playlist, by turns.
 measure_present() {
     local run name
     rm -f "$room"/*.runs
@@ -95,7 +100,7 @@ measure_present() {
     done
 }
 
-# measure_held CONNECTIONS: has connections wait for parts at both servers, in turn.
+# measure_held CONNECTIONS: has connections wait for parts at both servers, by turns.
 measure_held() {
     local run name
     rm -f "$room"/*.runs

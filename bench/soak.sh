@@ -1,15 +1,15 @@
 #!/usr/bin/env bash
-# soak.sh [SECONDS [PROGRAM]]: for so long (60 seconds where it isn't given) 64 kept connections ask `llhls serve` (or `PROGRAM serve`) on loopback for the
-# present playlist, while 64 others wait for one part after another, and are connected anew in each tenth of the time. After each tenth it prints the
-# server's resident memory. The last line says whether it still grows: whether it is larger after the last tenth than at half time by more than a
-# hundredth, and 256 KB. The variables of the environment that an allocator looks at reach the server. It judges nothing.
+# soak.sh [SECONDS [PROGRAM]]: for SECONDS (by default 60) 64 kept connections ask `llhls serve` (or `PROGRAM serve`) on loopback for the present
+# playlist, while 64 others wait for one part after another, and are connected anew in each tenth of the time. After each tenth it prints the server's
+# resident memory. The last line says whether that still grows: whether it is larger after the last tenth than at half time by more than a hundredth
+# and 256 KB. Environment variables that an allocator reads reach the server. It judges nothing.
 . "$(dirname "${BASH_SOURCE[0]}")/common.sh" || exit 2
 length=${1:-60}
 take_program_or_proved "${2-}"
 compile "$here/load.c" -pthread
 serve "$program" 'workers 256' 'channel cam target=4 part=1000000 skip=24 window=36 renditions=hi first=0 start=0' >&2
 
-# resident: the server's resident memory in KB.
+# resident: prints the server's resident memory in KB.
 resident() {
     awk '/^VmRSS:/ { print $2 }' "/proc/$server/status"
 }

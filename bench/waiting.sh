@@ -1,16 +1,16 @@
 #!/usr/bin/env bash
-# waiting.sh [WAITING..]: with so many requests waiting for a segment far ahead (0, 1,000 and 60,000 where none are given), publishes 400,000
-# parts of a segment before it. For each number it prints the parts per second, and their ratio to the first number's: what those
-# cost whom a part doesn't release.
-# Then what one of 1,000 and of 60,000 requests that wait together costs from its line to its end, and the ratio of the second to the first:
-# where they wait until the script ends, where each is closed in the order of asking or in reverse, and where one part releases all (of
-# 10,000 too). A request that waits is given up with the script, which takes about as long as a close: so each row is a whole, and
-# none is less another. Then a channel is filled with as many as may wait, and one part empties it: it prints the seconds.
-# At last one part releases 10,000 requests for the same playlist, or the same requests time out: it prints how much longer the first
-# takes, and how long for each reply; the playlist is rendered once.
-# Times are the median of RUNS runs (3 where it isn't set; of 15 times as many for the cost of one request of up to 10,000, which a run's
-# own start exceeds else), less that of the script that is compared, which is one without requests where nothing else is said.
-# It judges nothing.
+# waiting.sh [WAITING..]: measures requests that wait. First, while WAITING requests wait for a segment far ahead (by default 0, 1,000 and 60,000), it
+# publishes 400,000 parts of a segment before that. For each number it prints the parts per second, and their ratio to the first number's: what
+# requests cost that a part doesn't release.
+#
+# Then it prints what one of 1,000 and of 60,000 requests that wait together costs from its line to its end, and the ratio of the second to the first:
+# if they wait until the script ends, if each is closed in the order of asking or in reverse, and if one part releases all (of 10,000 too). A request
+# that waits is dropped with the script, which takes about as long as a close; so each row stands for itself, and none is less another. Then a channel
+# is filled with as many requests as can wait, and one part empties it: it prints the seconds. At last one part releases 10,000 requests for the same
+# playlist, or the same requests time out: it prints how much longer the first takes, and how long for each reply; the playlist is rendered once.
+#
+# Times are the median of RUNS runs (3 if it isn't set; 15 times as many for the cost of one request of up to 10,000, which the start of a run would
+# exceed otherwise), less that of the script that is compared, which is one without requests unless another is named. It judges nothing.
 . "$(dirname "${BASH_SOURCE[0]}")/common.sh" || exit 2
 take_program_or_proved
 runs=${RUNS:-3}
@@ -18,7 +18,7 @@ if [ "$#" = 0 ]; then
     set -- 0 1000 60000
 fi
 
-# script WAITING PARTS: requests that wait for segment 2, and then parts of segment 0.
+# script WAITING PARTS: prints a script of WAITING requests that wait for segment 2, and then PARTS parts of segment 0.
 script() {
     awk -v waiting="$1" -v parts="$2" 'BEGIN {
         print "channel cam target=60 part=1000000 skip=360 window=540 renditions=hi first=0 start=0"
@@ -28,7 +28,7 @@ script() {
     }'
 }
 
-# asked REQUESTS: requests that wait for the second part.
+# asked REQUESTS: prints a script of REQUESTS requests that wait for the second part.
 asked() {
     awk -v requests="$1" 'BEGIN {
         print "channel cam target=60 part=1000000 skip=360 window=540 renditions=hi first=0 start=0"
@@ -37,13 +37,13 @@ asked() {
     }'
 }
 
-# released REQUESTS LINE: the same, and a last line.
+# released REQUESTS LINE: prints the same, and a last line.
 released() {
     asked "$1"
     echo "$2"
 }
 
-# time_of SCRIPT [TIMES]: the median time in microseconds, of so many times as many runs.
+# time_of SCRIPT [TIMES]: prints the median time in microseconds, of TIMES times as many runs.
 time_of() {
     local runs=$((runs * ${2:-1}))
     replayed "$1" | median
@@ -65,7 +65,7 @@ for waiting in "$@"; do
     }'
 done
 
-# closed REQUESTS up|down: the same, closed in order of asking or in reverse.
+# closed REQUESTS up|down: prints the same, with each request closed, in order of asking or in reverse.
 closed() {
     asked "$1"
     awk -v requests="$1" -v way="$2" 'BEGIN {
@@ -73,8 +73,8 @@ closed() {
     }'
 }
 
-# spent REPLIES SCRIPT REQUESTS WORD..: the median time of the script that a command writes of so many requests, more than that of the
-# script without requests. So many get a playlist.
+# spent REPLIES SCRIPT REQUESTS WORD..: prints by how much the median time of the script that a command writes for REQUESTS requests exceeds that of
+# the script without requests. REPLIES of them get a playlist.
 spent() {
     local wanted=$1 time replies
     shift
@@ -85,7 +85,7 @@ spent() {
     echo $((time > none ? time - none : 1))
 }
 
-# each NAME NUMBER TIME..: microseconds for one at each number, and the ratio of the last to the first.
+# each NAME NUMBER TIME..: prints the microseconds for one request at each number, and the ratio of the last to the first.
 each() {
     awk 'BEGIN {
         line = ARGV[1]

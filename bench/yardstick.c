@@ -1,11 +1,11 @@
 /* yardstick serve SETTINGS
 
    A plain server with a thread for each connection, as a measure of what is possible: bench/serve.sh puts the same load on it as on `llhls serve`,
-   and prints the ratios. It is no origin. It reads the settings file of `llhls serve`, and of that the first channel alone, which has one
-   rendition; it takes `part` lines and nothing else, and of a request it looks at the path, `_HLS_msn` and `_HLS_part`. It has no limits, no
-   time-outs, no delta updates, and believes what it is sent. The playlists of such items are those of `llhls`, byte for byte.
+   and prints the ratios. It is no origin. It reads the settings file of `llhls serve`, and of that only the first channel, which has one
+   rendition; it takes `part` lines and nothing else, and of a request it reads the path, `_HLS_msn` and `_HLS_part`. It has no limits, no
+   time-outs and no delta updates, and checks nothing of what it is sent. The playlists of such items are those of `llhls`, byte for byte.
 
-   A part's bytes may follow its line. It keeps them for good, and never waits for any: an answer with the bytes of a part or of a finished segment is
+   A part's bytes may follow its line. It keeps them for good, and no request for them waits: an answer with the bytes of a part or of a finished segment is
    its head and these bytes where they lie, in one writev.
 
    The answer with the present playlist is made once a part. A thread takes the mutex, waits on the condition until the part that it wants is
@@ -36,7 +36,7 @@ struct part {
     size_t length;
 };
 
-/* How many parts of a segment an answer has at most. */
+/* The most parts of a segment that an answer has. */
 #define PIECES 64
 
 /* A whole answer; the last holder frees it. */
@@ -105,7 +105,7 @@ static void put_part(struct writing *w, size_t segment, size_t index)
     put(w, ",URI=\"s%lld.%zu.m4s\"%s\n", first + (long long)segment, index, p->independent ? ",INDEPENDENT=YES" : "");
 }
 
-/* The lines of a segment, of which so much comes after it. */
+/* Puts the lines of a segment; `after` is what comes after it. */
 static void put_segment(struct writing *w, size_t n, int is_first, int is_finished, long long after)
 {
     const struct segment *s = &segments[n];
@@ -160,7 +160,7 @@ static void let_go(struct answer *a)
         free(a);
 }
 
-/* Makes the answer of what was published. */
+/* Makes the answer with what was published. */
 static void make_present(void)
 {
     static struct writing body;
@@ -183,7 +183,7 @@ static void make_present(void)
     present = made;
 }
 
-/* Adds a part with these bytes; how many there are then. */
+/* Adds a part with these bytes. Returns how many parts there are then. */
 static size_t add_part(long long duration, int independent, int is_last, char *media, size_t media_length)
 {
     size_t count;
@@ -211,7 +211,7 @@ static size_t add_part(long long duration, int independent, int is_last, char *m
     return count;
 }
 
-/* Whether the segment, or with a part of 0 or more that part, is there, or a later one. */
+/* Returns whether the segment is there, or, if `part` is 0 or more, that part, or a later one. */
 static int is_there(long long segment, long long part)
 {
     long long finished = first + (long long)segment_count - is_open;
@@ -219,7 +219,7 @@ static int is_there(long long segment, long long part)
     return segment < finished || (part >= 0 && is_open && segment == finished && part < (long long)segments[segment_count - 1].parts);
 }
 
-/* A holder of the answer once what is wanted is there. */
+/* Waits until what is wanted is there. Returns a holder of the answer. */
 static struct answer *answer_of(const char *query)
 {
     const char *msn = strstr(query, "_HLS_msn="), *part = strstr(query, "_HLS_part=");
@@ -246,7 +246,7 @@ static int write_all(int s, const char *text, size_t length)
     return 1;
 }
 
-/* The bytes of a segment's part, or of all its parts where the index is below 0, after a first piece; how many pieces there are then. 1 where they aren't there. */
+/* Adds the bytes of a segment's part, or of all its parts if the index is below 0, after a first piece. Returns how many pieces there are then: 1 if these bytes aren't there. */
 static int media_of(long long segment, long index, struct iovec *pieces)
 {
     long long n = segment - first;
@@ -280,7 +280,7 @@ static int write_pieces(int s, struct iovec *pieces, int count)
     return 1;
 }
 
-/* Answers a request for media by the name of its file; -1 where this isn't there. */
+/* Answers a request for media by the name of its file. Returns -1 if that isn't there. */
 static int answer_media(int s, const char *file)
 {
     struct iovec pieces[1 + PIECES];
@@ -306,7 +306,7 @@ static int answer_media(int s, const char *file)
     return write_pieces(s, pieces, count);
 }
 
-/* Answers the request whose head is this text; tells whether the connection goes on. */
+/* Answers the request whose head is this text. Returns whether the connection goes on. */
 static int answer_request(int s, const char *head)
 {
     static const char lost[] = "HTTP/1.1 404 Not Found\r\nContent-Type: text/plain\r\nContent-Length: 9\r\n"
@@ -327,7 +327,7 @@ static int answer_request(int s, const char *head)
     return written;
 }
 
-/* So many bytes and an LF, of which `count` bytes at `bytes` may have the first; how many of these they are. NULL where the connection ended. */
+/* Returns `length` bytes and an LF, the first of which may be among the `count` bytes at `bytes`, and sets how many of these they are. NULL if the connection ended. */
 static char *read_media(int s, const char *bytes, size_t count, size_t length, size_t *taken)
 {
     char *media = malloc(length + 1);
@@ -346,7 +346,7 @@ static char *read_media(int s, const char *bytes, size_t count, size_t length, s
     return NULL;
 }
 
-/* Answers a line, after which so many bytes came; `taken` tells how many of these are its part's. */
+/* Answers a line, after which `count` bytes came; sets `taken` to how many of these are its part's. */
 static int answer_line(int s, char *line, const char *bytes, size_t count, size_t *taken)
 {
     char of[33], in[33], flags[3], reply[40], *media = NULL;
@@ -368,7 +368,7 @@ struct link {
     int socket, is_publisher;
 };
 
-/* One connection: cuts what comes into heads or lines, and answers each. */
+/* Serves one connection: cuts what comes into heads or lines, and answers each. */
 static void *serve_link(void *given)
 {
     struct link link = *(struct link *)given;

@@ -1,5 +1,5 @@
 #!/usr/bin/env bash
-# answers_at_once.sh PROGRAM: a publisher that keeps its end open reads each answer before it sends its next line.
+# answers_at_once.sh PROGRAM: checks that a publisher that keeps its end open can read each answer before it sends its next line.
 . "$(dirname "${BASH_SOURCE[0]}")/common.sh" || exit 2
 take_program "$1"
 coproc llhls { exec "$program" replay; }
@@ -7,7 +7,7 @@ servers=("$llhls_PID")
 send=${llhls[1]}
 receive=${llhls[0]}
 
-# Reads the next answer.
+# answered ANSWER: reads the next answer, and ends the script if it is another one.
 answered() {
     local answer
     read -r -t 30 answer <&"$receive" || exit 1

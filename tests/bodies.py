@@ -1,7 +1,7 @@
-"""What tests/serve.sh does with large media, and with many who wait.
+"""What tests/serve.sh does with large media, and with many players that wait.
 
-bodies.py WHAT PORT PUBLISH_PORT: publishes to the channel `cam` of a server that was just started, has players ask for what it has, and demands of each answer
-every byte. WHAT is one of the functions below that have a line of what they do.
+bodies.py WHAT PORT PUBLISH_PORT: publishes to the channel `cam` of a server that was just started, has players ask for what it has, and demands
+every byte of each answer. WHAT is `largest`, `slow_readers`, `hang_ups`, `little_by_little` or `are_woken`.
 """
 import random
 import resource
@@ -15,7 +15,7 @@ MOST = 1 << 20  # bytes of a part
 
 
 def connect(port):
-    """A connection whose packets are as small as those of a network. With those of loopback a server's system takes some 1 MB of an answer at once, also where nobody reads."""
+    """Returns a connection whose packets are as small as those of a network. With those of loopback, a server's system takes some 1 MB of an answer at once even if nobody reads."""
     connection = socket.socket()
     connection.settimeout(SECONDS)
     connection.setsockopt(socket.IPPROTO_TCP, socket.TCP_MAXSEG, 1448)
@@ -24,7 +24,7 @@ def connect(port):
 
 
 def publish(port, *items):
-    """Publishes items, each with as many random bytes as its number says, and returns these bytes."""
+    """Publishes items, each with as many random bytes as its number says. Returns these bytes."""
     media = [random.Random(number).randbytes(length) for number, (_, length) in enumerate(items)]
     with connect(port) as publisher:
         answers = publisher.makefile("rb")
@@ -37,13 +37,13 @@ def publish(port, *items):
 
 
 def segment(port):
-    """A segment of 1 MB, of four parts; its bytes."""
+    """Publishes a segment of 1 MB, of four parts. Returns its bytes."""
     flags = "i--f"
     return b"".join(publish(port, *((f"part hi 1000000 {flag}", MOST // 4) for flag in flags)))
 
 
 class Player:
-    """A player that asks for one file, of these bytes, and keeps its connection."""
+    """A player that asks for one file with the expected bytes, and keeps its connection."""
 
     def __init__(self, port, file, body):
         head = f"HTTP/1.1 200 OK\r\nContent-Type: video/mp4\r\nContent-Length: {len(body)}\r\nCache-Control: max-age=60\r\nConnection: keep-alive\r\n\r\n"
@@ -52,7 +52,7 @@ class Player:
         self.connection.sendall(f"GET /cam/hi/{file} HTTP/1.1\r\nHost: a\r\n\r\n".encode())
 
     def take(self, most=1 << 18):
-        """Reads some bytes; whether those were the last."""
+        """Reads some bytes. Returns whether these were the last."""
         left = len(self.head) - self.came
         wanted = self.head[self.came:] if left > 0 else self.body[-left:-left + most]
         came = self.connection.recv(min(most, len(wanted)))
@@ -62,14 +62,14 @@ class Player:
         return self.came == len(self.head) + len(self.body)
 
     def whole(self, most=1 << 18, pause=0):
-        """Reads the answer to its end, so much at a time and with so many seconds after each."""
+        """Reads the answer to its end, at most `most` bytes at a time, and pauses `pause` seconds after each read."""
         while not self.take(most):
             time.sleep(pause)
         self.connection.close()
 
 
 def largest(port, publish_port):
-    """The largest section and the largest parts, and a segment of three of these."""
+    """Players get the largest section and the largest parts, and a segment of three of these."""
     section, *parts = publish(publish_port, ("init hi", MOST), *((f"part hi 1000000 {flag}", MOST) for flag in "i-f"))
     for file, body in ("init0.mp4", section), *((f"s0.{index}.m4s", part) for index, part in enumerate(parts)), ("s0.m4s", b"".join(parts)):
         Player(port, file, body).whole()
@@ -113,14 +113,14 @@ def little_by_little(port, publish_port):
 
 
 def ask(port, rendition):
-    """A player that waits for the first part of a rendition."""
+    """Returns a player that waits for the first part of a rendition."""
     player = connect(port)
     player.sendall(b"GET /cam/%s/live.m3u8?_HLS_msn=0&_HLS_part=0 HTTP/1.1\r\nHost: a\r\n\r\n" % rendition)
     return player
 
 
 def are_woken(port, publish_port):
-    """Three hundred players wait for a part, and after them four hundred for one of another rendition. That one comes, and these have their answers
+    """Three hundred players wait for a part, and after them four hundred for a part of another rendition. That part comes, and these have their answers
     long before a worker looks by itself, a second after it began to wait; the others have none."""
     others = [ask(port, b"lo") for _ in range(300)]
     players = {ask(port, b"hi") for _ in range(400)}

@@ -1,7 +1,7 @@
 #!/usr/bin/env bash
-# build.sh [NAME]: proves the program, llhls or that of this name, and every library that it stands on, on all processors, and prints the program's path. Standard
-# error is told each crate that is proved, in a line. Where the kit keeps what it proved, `make test` takes it from there: it is proved as `rt ci` proves a repository, in a copy of these
-# crates without their must-fail edits.
+# build.sh [NAME]: proves the program llhls, or that called NAME, with every library that it stands on, on all processors. Prints the program's path
+# on standard output, and a line for each crate that is proved on standard error. It is proved as `rt ci` proves a repository, in a copy of these
+# crates without their must-fail edits; if the kit keeps what it proved, `make test` takes it from there.
 set -euo pipefail
 cd "$(dirname "${BASH_SOURCE[0]}")/.."
 . tests/copy.sh
@@ -12,9 +12,9 @@ copy_crates "$room/all" "$name"
 made=$PWD/crates/$name/out
 mkdir -p "$made"
 
-# Says what `rt ci` says.
+# Proves all crates, and prints what `rt ci` prints.
 prove_all() {
-    if [ -d "$room/all/crates/ll_link" ]; then
+    if [ -d "$room/all/crates/ll_serve" ]; then
         lanes= prove_chain "$room" "$room/all/crates.txt"
     fi
     cd "$room/all"

@@ -1,6 +1,7 @@
 #!/usr/bin/env bash
-# build_lines.sh: what tests/build.sh tells, over an `rt` that proves nothing and says what the kit's says: a line for each crate, numbered, then the program's path; and a status of 1 where a
-# crate isn't proved. Where that `rt` keeps nothing (FORGETS), no crate is proved twice. The last line is `N passed, M failed`.
+# build_lines.sh: tests what tests/build.sh prints, with a stand-in for `rt` that proves nothing and prints what the kit's prints: a numbered line for
+# each crate, then the program's path, and a status of 1 if a crate isn't proved. If the stand-in keeps nothing (FORGETS), no crate is proved twice.
+# The last line is `N passed, M failed`.
 . "$(dirname "${BASH_SOURCE[0]}")/common.sh" || exit 2
 cd "$root" || exit 2
 . tests/copy.sh
@@ -27,14 +28,14 @@ done
 END
 chmod +x "$room/bin/rt"
 
-# build: runs it, sets `status`, and leaves what it writes in `stdout` and `stderr`.
+# build: runs tests/build.sh, sets `status`, and leaves its output in `stdout` and `stderr`.
 build() {
     PATH=$room/bin:$PATH "$room/copy/tests/build.sh" >"$room/stdout" 2>"$room/stderr"
     status=$?
     made=$room/copy/crates/llhls/out
 }
 
-# expect_lines: it ends well, and has told a line for each crate.
+# expect_lines: tests that it succeeded, and printed a line for each crate.
 expect_lines() {
     if [ "$status" = 0 ] && [ "$(<"$room/stdout")" = "$made/llhls" ] && [ "$(<"$made/llhls")" = program ]; then
         pass

@@ -1,5 +1,6 @@
-# What the scripts of tests/ and bench/ share; each sources it first of all. It sets `here` to the folder of that script, and `root` to the repository's. `room` is a folder that goes
-# away when the script ends, and the servers that it started go with it. Texts and numbers are those of the C locale.
+# What the scripts of tests/ and bench/ share; each sources it first. It sets `here` to the folder of that script, `root` to that of the repository,
+# and `room` to a folder that is removed when the script ends, as the servers that it started are stopped then. Texts and numbers are those of the C
+# locale.
 set -u
 export LC_ALL=C
 here=$(cd "$(dirname "${BASH_SOURCE[-1]}")" && pwd) || exit 2
@@ -16,13 +17,14 @@ pass() {
     passed=$((passed + 1))
 }
 
-# fail MESSAGE..: a test has failed.
+# fail MESSAGE..: counts a test that has failed, and prints why.
 fail() {
     failed=$((failed + 1))
     echo "FAILED $*"
 }
 
-# add STATUS FILE WORD..: adds the numbers of the last line of what a command of these words wrote, `N passed, M failed`. It ended with this status.
+# add STATUS FILE WORD..: adds the numbers of the last line of FILE, `N passed, M failed`, which the command of these words wrote before it ended with
+# STATUS.
 add() {
     if [[ $(tail -n 1 "$2") =~ ^([0-9]+)\ passed,\ ([0-9]+)\ failed$ ]]; then
         passed=$((passed + BASH_REMATCH[1]))
@@ -35,13 +37,13 @@ add() {
     fi
 }
 
-# told_all: the last line of a script, and its status.
+# told_all: prints the last line of a script, and returns its status.
 told_all() {
     echo "$passed passed, $failed failed"
     [ "$failed" = 0 ]
 }
 
-# give_up MESSAGE..: ends the script, with one failure.
+# give_up MESSAGE..: ends the script with one failure.
 give_up() {
     echo "$*"
     passed=0 failed=1
@@ -57,13 +59,13 @@ take_program() {
     [ -f "$program" ] && [ -x "$program" ] || give_up "$1 is no program"
 }
 
-# all_of FILE: leaves in `said` all that it holds. No text here holds a byte 0; where one does, this fails.
+# all_of FILE: sets `said` to all that the file holds. Fails if that has a byte 0, which no text here has.
 all_of() {
     ! IFS= read -r -d '' said <"$1"
 }
 
-# expect NAME OUTPUT STATUS FAULT WORD..: runs the program on standard input. It is to write what the file OUTPUT holds, and the line FAULT to standard error where that
-# isn't empty, and to end with this status.
+# expect NAME OUTPUT STATUS FAULT WORD..: runs the program on standard input. Tests that it writes what the file OUTPUT holds, writes the line FAULT,
+# or nothing if that is empty, to standard error, and ends with STATUS.
 expect() {
     local name=$1 output=$2 wanted=$3 fault=$4 status
     shift 4
@@ -78,7 +80,7 @@ expect() {
     fi
 }
 
-# ending_of NAME: sets `wanted` to the status that a row ends with, and `fault` to what it writes to standard error.
+# ending_of NAME: sets `wanted` to the status with which a row ends, and `fault` to what it writes to standard error.
 declare -A endings=()
 ending_of() {
     local name ending
@@ -98,12 +100,12 @@ compile() {
 
 # ---- servers
 
-# Those that run.
+# The servers that run.
 servers=()
 log=$room/log
 
-# serve PROGRAM LINE..: starts a server on ports of the system's choice, with these lines of settings after them, and waits until it has told both, `port` for players and
-# `publish_port` for publishers. FILES limits its open files.
+# serve PROGRAM LINE..: starts a server on ports of the system's choice, with these lines of settings after them. Waits until it has printed both, and
+# sets `port` to that for players and `publish_port` to that for publishers. FILES limits its open files.
 serve() {
     local tries
     printf '%s\n' 'listen 127.0.0.1:0' 'publish 127.0.0.1:0' "${@:2}" >"$room/settings"
@@ -140,22 +142,23 @@ stop() {
 
 # ---- numbers and texts
 
-# spread [COLUMN]: of the numbers in a column of standard input, the first where none is named: the median, the smaller and the larger quartile, the least and the largest.
+# spread [COLUMN]: prints the median, the smaller and the larger quartile, the least and the largest of the numbers in a column of standard input, by
+# default the first.
 spread() {
     sort -g -k "${1-1},${1-1}" | awk -v column="${1-1}" '
         { at[NR] = $column }
         END { print at[int((NR + 1) / 2)], at[1 + int(NR / 4)], at[NR - int(NR / 4)], at[1], at[NR] }'
 }
 
-# median [COLUMN]
+# median [COLUMN]: prints the median alone.
 median() {
     spread "$@" | cut -d ' ' -f 1
 }
 
-# many COUNT: as many bytes x.
+# many COUNT: prints COUNT bytes x.
 many() {
     head -c "$1" /dev/zero | tr '\0' x
 }
 
-# The channel of most tests.
+# The settings of the channel of most tests.
 cam='channel cam target=4 part=1000000 skip=24 window=36 renditions=hi,lo first=0 start=0'

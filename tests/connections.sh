@@ -1,7 +1,7 @@
 #!/usr/bin/env bash
-# connections.sh PROGRAM: runs each row of tests/connections with its bytes cut in every way: in one piece, byte by byte, and each text cut
-# in two after 1, 2, 3 .. bytes, as far as the row's longest `say` line goes. Each time the program writes the row's output. The last line,
-# `N passed, M failed`, counts runs.
+# connections.sh PROGRAM: runs each row of tests/connections with its bytes cut in every way: in one piece, byte by byte, and each text cut in two
+# after 1, 2, 3 .. bytes, up to the length of the row's longest `say` line. Each time the program has to write the row's output. The last line, `N
+# passed, M failed`, counts runs.
 . "$(dirname "${BASH_SOURCE[0]}")/common.sh" || exit 2
 take_program "$1"
 

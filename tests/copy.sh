@@ -1,7 +1,7 @@
-# It is sourced at the top of the repository.
+# Copies of crates, and proofs in such copies. This file is sourced at the top of the repository.
 
-# copy_crates FOLDER NAME..: copies these crates and those that they stand on to a folder, as a repository of their own, without what was made of them and without
-# their must-fail edits.
+# copy_crates FOLDER NAME..: copies these crates and those that they stand on to FOLDER, as a repository of their own, without what was built of them
+# and without their must-fail edits.
 copy_crates() {
     local to=$1 crate
     mkdir -p "$to/crates"
@@ -27,13 +27,13 @@ copy_crates() {
     done
 }
 
-# prove FOLDER NAME..: proves these crates and those that they stand on, in a copy of theirs at this folder.
+# prove FOLDER NAME..: proves these crates and those that they stand on, in a copy at FOLDER.
 prove() {
     copy_crates "$@"
     (cd "$1" && rt ci)
 }
 
-# keeps FOLDER: whether the kit keeps what one run proved for the next. Tried in this folder, with a crate of one function.
+# keeps FOLDER: returns whether the kit keeps what one run proved for the next. Tries it in FOLDER, with a crate of one function.
 keeps() {
     mkdir -p "$1/crates/tiny/src"
     cp HANDLES "$1"
@@ -42,27 +42,30 @@ keeps() {
     (cd "$1" && rt ci && rt ci) 2>&1 | grep ' is kept: ' >/dev/null
 }
 
-# prove_chain FOLDER FILE: proves the crates of this file, of the form of crates.txt, in copies below this folder, those up to ll_link first of all; some may still be at work when this ends. The caller proves what is left. `lanes` is how many
-# crates are proved side by side, empty for as many as `rt ci` finds memory for.
-# Most crates wait for one another in one long chain up to ll_link and the program. A run of `rt ci` parts the processors among the crates that are ready in it, and once it has proved one it takes the next before another
-# run can. So the chain has runs of its own, in which few are ready, beside a niced run over what doesn't stand on ll_book, and then one over what doesn't stand on ll_link. Each takes what another proves.
+# prove_chain FOLDER FILE: proves the crates of FILE, which has the form of crates.txt, in copies below FOLDER, those up to ll_serve first of all.
+# Some proofs may go on when it ends; the caller proves what is left. `lanes` is how many crates are proved side by side, or empty for as many as `rt
+# ci` finds memory for.
+#
+# Most crates wait for one another in one long chain up to ll_serve and the program. A run of `rt ci` divides the processors among the crates that are
+# ready in it, and once it has proved one, it takes the next before another run can. So the chain has runs of its own, in which few crates are ready,
+# beside a niced run over what doesn't stand on ll_book, and then one over what doesn't stand on ll_serve. Each takes what another proves.
 prove_chain() {
     local crate last=()
-    # Where the kit keeps nothing, each run would begin anew.
+    # If the kit keeps nothing, each run would begin anew.
     keeps "$1/tiny" || return 0
-    # (on the processors that ll_attr and ll_item leave idle)
+    # These use the processors that ll_attr and ll_item leave idle.
     (sleep 5 && RT_JOBS=2 prove "$1/beside" ll_device ll_mp4 ll_line) &
-    # Where the chain's first crates were proved before, little is left.
+    # If the chain's first crates were proved before, little is left.
     prove "$1/ll_item" ll_item | tee "$1/item.log"
     grep -q ' proved$' "$1/item.log" || return 0
     prove_rest "$1/rest" "$2" ll_book &
     prove "$1/ll_page" ll_page
     prove "$1/ll_book" ll_book
     prove "$1/ll_room" ll_room
-    prove_rest "$1/more" "$2" ll_link &
+    prove_rest "$1/more" "$2" ll_serve &
     prove "$1/ll_hub" ll_hub
-    prove "$1/ll_link" ll_link
-    for crate in ll_link_tests llhls; do
+    prove "$1/ll_serve" ll_serve
+    for crate in ll_serve_tests llhls; do
         if grep -q "^$crate:" "$2"; then
             prove "$1/$crate" "$crate" &
             last+=($!)
@@ -71,7 +74,8 @@ prove_chain() {
     wait "${last[@]}"
 }
 
-# prove_rest FOLDER FILE NAME: proves the crates of this file that don't stand on this one, in a copy at this folder, and tries the must-fail edits that stand beside that file.
+# prove_rest FOLDER FILE NAME: proves the crates of FILE that don't stand on NAME, in a copy at FOLDER, and tries their must-fail edits, which are
+# found beside FILE.
 prove_rest() {
     local crate crates
     renice -n 19 "$BASHPID" >/dev/null
@@ -82,12 +86,12 @@ prove_rest() {
             cp -r "${2%crates.txt}crates/$crate/must-fail" "$1/crates/$crate"
         fi
     done
-    # (the run beside it begins first)
+    # The run beside this one begins first.
     sleep 5
     cd "$1" && RT_JOBS=$lanes rt ci
 }
 
-# without NAME: of the lines of crates.txt on standard input, the names of the crates that don't stand on this one.
+# without NAME: reads lines of crates.txt on standard input, and prints the names of the crates that don't stand on NAME.
 without() {
     awk -F ': *' -v crate="$1" '
         { sub(/ *#.*/, "") }
@@ -101,8 +105,8 @@ without() {
         }'
 }
 
-# tell WHOLE: of what runs of `rt ci` in folders of $room say, a line for each crate that is proved: how many functions it has, how long it took, and how many of how
-# many that are.
+# tell WHOLE: reads what runs of `rt ci` in folders of $room print, and prints a line for each crate that is proved: how many functions it has, how
+# long it took, and its number among WHOLE.
 tell() {
     local crate= count=0 line
     local -A functions told
@@ -129,7 +133,7 @@ tell() {
     done
 }
 
-# seconds CRATE: how long ago its proof began, which is when its folder `out` was made.
+# seconds CRATE: prints how many seconds ago its proof began, which is when its folder `out` was made.
 seconds() {
     echo $(($(date +%s) - $(stat -c %W "$room"/*/crates/"$1"/out | sort -n | head -n 1)))
 }

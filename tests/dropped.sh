@@ -1,12 +1,12 @@
 #!/usr/bin/env bash
-# dropped.sh PROGRAM: rows of tests/connections whose connection 1 ends too early. First, the bytes of its first `say` line are cut after 1, 2, 3 .. bytes, and the
-# connection ends before the others come: they are taken by nobody, and what it had asked until then is given up. Then the connection ends after each of
-# the script's lines. Each time the program writes what the row has on other connections, to `get` lines and to publishers, and nothing on connection 1 after
-# its end. The last line, `N passed, M failed`, counts runs.
+# dropped.sh PROGRAM: runs rows of tests/connections whose connection 1 ends too early. First, the bytes of its first `say` line are cut after 1, 2, 3
+# .. bytes, and the connection ends before the others come: nobody takes those, and requests of the connection until then are closed. Then the
+# connection ends after each of the script's lines. Each time the program has to write what the row has on other connections, to `get` lines and to
+# publishers, and nothing on connection 1 after its end. The last line, `N passed, M failed`, counts runs.
 . "$(dirname "${BASH_SOURCE[0]}")/common.sh" || exit 2
 take_program "$1"
 
-# others: what a script writes but for the lines of connection 1.
+# others: prints what a script writes, but for the lines of connection 1.
 others() {
     LC_ALL=C awk '
         left > 0 { left -= length($0) + 1; if (!mine) print; next }
@@ -15,7 +15,8 @@ others() {
         { print }'
 }
 
-# drops SCRIPT LINE: the connection ends after so many lines of a script. It writes what the lines until then write, and what the others write after it.
+# drops SCRIPT LINE: ends the connection after LINE lines of a script. Tests that it writes what the lines until then write, and what the others write
+# after it.
 drops() {
     head -n "$2" "$1" >"$room/front"
     { cat "$room/front"; echo 'drop 1'; tail -n "+$(($2 + 1))" "$1"; } >"$room/script"

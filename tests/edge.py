@@ -1,6 +1,6 @@
 """What tests/edge.sh has a thousand players do.
 
-edge.py PORT PUBLISH_PORT: players of the channel `cam`, by the proxy at this port, wait for part after part; each must get the bytes that are published, or the playlist with
+edge.py PORT PUBLISH_PORT: players of the channel `cam`, by the proxy at PORT, wait for part after part. Each has to get the bytes that are published, or the playlist with
 them. Then come what can be cached, what can't be, a time-out, compression, the header fields for pages of other sites, and the end. The first wrong answer ends it with a message.
 """
 import gzip
@@ -41,19 +41,19 @@ class Publisher:
 
 
 def asks(player, target, **fields):
-    """The request is sent; a connection that was closed is opened anew."""
+    """Sends a request. A connection that was closed is opened anew."""
     player.request("GET", target, headers=fields)
     return player
 
 
 def answer(player):
-    """The status of the answer, its body and its fields."""
+    """Returns the status of the answer, its body and its fields."""
     response = player.getresponse()
     return response.status, response.read(), response.headers
 
 
 def told(port, target, method="GET", **fields):
-    """The same of a request on a connection of its own."""
+    """Makes a request on a connection of its own. Returns the status of the answer, its body and its fields."""
     player = http.client.HTTPConnection("127.0.0.1", port, timeout=SECONDS)
     player.request(method, target, headers=fields)
     found = answer(player)
@@ -69,7 +69,7 @@ def nothing_came(players):
 
 
 def wait_for(players, segment, index):
-    """Half of the players ask for the playlist with a part, and half for the part; nothing comes."""
+    """Half of the players ask for the playlist with a part, and half for the part. No answer comes yet."""
     targets = f"{PRESENT}?_HLS_msn={segment}&_HLS_part={index}", f"{FOLDER}s{segment}.{index}.m4s"
     for number, player in enumerate(players):
         asks(player, targets[number % 2])
@@ -82,7 +82,7 @@ def rounds(port, publisher):
     for number in range(ROUNDS):
         segment, index = divmod(number, SEGMENT)
         wait_for(players, segment, index)
-        # (a third of them hang up, and come again for the next part)
+        # A third of them hang up, and come again for the next part.
         gone = players[::3] if number == 2 else []
         for player in gone:
             player.close()
@@ -103,7 +103,7 @@ def rounds(port, publisher):
 
 
 def cached(port, publisher):
-    """Media stays; a query changes nothing of it. Part of it can be asked for."""
+    """Media stays cached, whatever its query. A range of it can be asked for."""
     body = b"".join(publisher.parts[:SEGMENT])
     for query in "", "", "?a", "?_HLS_msn=7", "":
         found = told(port, FOLDER + "s0.m4s" + query)
@@ -121,7 +121,7 @@ def refused(port):
 
 
 def times_out(port):
-    """Of a hundred players who wait for what doesn't come each is told so, by one request that waits."""
+    """A hundred players wait for what doesn't come. Each gets the time-out, by one request that waits at the server."""
     players = [http.client.HTTPConnection("127.0.0.1", port, timeout=SECONDS) for _ in range(100)]
     segment, index = divmod(ROUNDS, SEGMENT)
     began = time.monotonic()
@@ -148,7 +148,7 @@ def fields(port):
 
 
 def ends(port, publisher):
-    """Of a hundred players who wait for a part that never comes, since its rendition ends, each is told so."""
+    """A hundred players wait for a part that never comes, because its rendition ends. Each gets NotFound."""
     players = [http.client.HTTPConnection("127.0.0.1", port, timeout=SECONDS) for _ in range(100)]
     segment, index = divmod(ROUNDS, SEGMENT)
     for player in players:

@@ -1,8 +1,8 @@
 #!/usr/bin/env bash
-# edge.sh PROGRAM: nginx and Varnish, with the settings of examples/edge but on loopback alone, in front of `llhls serve` with 64 workers. A thousand players wait there (tests/edge.py), and
-# the record of the channel tells what reached the server: for each part one request for the playlist and one for the part, each file of media once, each refusal as often as it
-# was asked for, and one request where a hundred players waited for what didn't come. Where nginx or Varnish isn't installed, it says so and tests nothing. The last line is
-# `N passed, M failed`.
+# edge.sh PROGRAM: puts nginx and Varnish, with the settings of examples/edge but on loopback alone, in front of `llhls serve` with 64 workers. A
+# thousand players wait there (tests/edge.py), and the record of the channel shows what reached the server: for each part one request for the playlist
+# and one for the part, each file of media once, each refusal as often as it was asked for, and one request if a hundred players waited for what
+# didn't come. Without nginx or Varnish it says so and tests nothing. The last line is `N passed, M failed`.
 . "$(dirname "${BASH_SOURCE[0]}")/server.sh" || exit 2
 take_program "$1"
 edge=$root/examples/edge
@@ -14,12 +14,12 @@ for each in varnishd nginx openssl python3; do
     fi
 done
 
-# is_open PORT: whether someone listens there.
+# is_open PORT: returns whether someone listens there.
 is_open() {
     (exec 3<>"/dev/tcp/127.0.0.1/$1") 2>/dev/null
 }
 
-# free_port: sets `free` to a port of no one.
+# free_port: sets `free` to a port at which nobody listens.
 free=$((20000 + RANDOM % 10000))
 free_port() {
     free=$((free + 1))
@@ -28,7 +28,7 @@ free_port() {
     done
 }
 
-# begins PORT WORD..: starts a program that listens there.
+# begins PORT WORD..: starts a program, and waits until it listens at PORT.
 begins() {
     local tries
     "${@:2}" >"$room/${2##*/}" 2>&1 &
@@ -42,7 +42,7 @@ begins() {
     give_up "$2 isn't up: $(head -c 2000 "$room/${2##*/}")"
 }
 
-# counts NAME NUMBER: the record tells so many.
+# counts NAME NUMBER: tests that the record counts NUMBER of NAME.
 counts() {
     if grep -qx "$1 $2" "$room/counts"; then
         pass
@@ -51,7 +51,7 @@ counts() {
     fi
 }
 
-# asked FILE NUMBER: so many requests for a file of media reached the server.
+# asked FILE NUMBER: tests that NUMBER requests for a file of media reached the server.
 asked() {
     local count
     count=$(grep -c "^M [0-9]* hi $1 " "$room/record.cam")
@@ -70,11 +70,11 @@ free_port && tls=$free
 free_port && plain=$free
 mkdir -p "$room/live/cam" && cp "$edge/main.m3u8" "$room/live/cam"
 openssl req -x509 -newkey rsa:2048 -nodes -days 2 -subj /CN=localhost -keyout "$room/live.key" -out "$room/live.pem" 2>/dev/null
-# (beside the port with TLS one without, for the thousand)
+# Beside the port with TLS, one without it for the thousand players.
 sed -e "s/listen 443 /listen 127.0.0.1:$plain; listen 127.0.0.1:$tls /" -e "s/127\.0\.0\.1:6081/127.0.0.1:$varnish/" -e "s|/etc/ssl/|$room/|" \
     -e "s|/srv/live|$room/live|" -e "s|/run/|$room/|" -e "s|/var/log/nginx/|$room/|" \
     -e "s|^http {|& client_body_temp_path $room/t1; proxy_temp_path $room/t2; fastcgi_temp_path $room/t3; uwsgi_temp_path $room/t4; scgi_temp_path $room/t5;|" "$edge/nginx.conf" >"$room/nginx.conf"
-# (nobody else is to reach it)
+# Nobody else must be able to reach it.
 if grep -w listen "$room/nginx.conf" | grep -qv 'listen 127\.0\.0\.1:[0-9]*; listen 127\.0\.0\.1:[0-9]* ssl http2;$'; then
     give_up "nginx would listen elsewhere: $(grep -w listen "$room/nginx.conf")"
 fi
@@ -85,7 +85,7 @@ if timeout 120 python3 "$here/edge.py" "$plain" "$publish_port" >"$room/said" 2>
 else
     fail "tests/edge.py: $(head -c 2000 "$room/said")"
 fi
-# What is asked for and there: three playlists of the moment, and a segment.
+# The requests that are answered at once: three for the present playlist, and one for a segment.
 at_once=4
 if curl --version 2>/dev/null | grep -q HTTP2; then
     at_once=5
@@ -95,11 +95,11 @@ if curl --version 2>/dev/null | grep -q HTTP2; then
         fail 'no playlist by HTTP/2'
     fi
 fi
-# (the record is written every 10 seconds)
+# The record is written every 10 seconds.
 sleep 11
 "$program" explain "$room/record.cam" >"$room/counts" || fail "the record isn't right: $(<"$room/counts")"
 counts 'most held' 2
-# (six parts, for each the playlist and the part; and the end)
+# For each of six parts the playlist and the part; and the end.
 counts 'held and answered' 13
 counts 'answered at once' "$at_once"
 counts 'timed out' 1

@@ -1,5 +1,6 @@
 #!/usr/bin/env python3
-"""edits_apply.py: each must-fail edit of edits/ and crates/*/must-fail names a file of its crate, and each line that it replaces stands there once. It proves nothing: `make edits` tries them."""
+"""edits_apply.py: tests that each must-fail edit of edits/ and crates/*/must-fail names a file of its crate, and that each line that it replaces is there exactly once.
+It proves nothing: `make edits` tries the edits."""
 import pathlib
 import sys
 
@@ -7,7 +8,7 @@ root = pathlib.Path(__file__).resolve().parent.parent
 
 
 def fault(edit, crate):
-    """Why an edit can't be tried; nothing, where it can."""
+    """Returns why an edit can't be tried, or nothing if it can."""
     text = old = None
     for line in edit.read_text().splitlines():
         word, _, rest = line.partition(": ")

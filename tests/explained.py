@@ -1,7 +1,8 @@
 """What tests/explained.sh runs: explained.py PROGRAM FOLDER.
 
-For each record of the folder that is right, the events of each of its chains are made a script, and replayed. The playlist that `explain` writes for an entry
-is then the one that the script's answer has, byte for byte, and the entry's words are its own; of the number after the last entry comes NoEntry. The last line is `N passed, M failed`; it counts records.
+For each record of the folder that is right, makes a script of the events of each of its chains, and replays it. The playlist that `explain` writes for an entry
+has to be the one of the script's answer, byte for byte, and the words have to be the entry's own; the number after the last entry has to be NoEntry. The last line,
+`N passed, M failed`, counts records.
 """
 import os
 import re
@@ -21,7 +22,7 @@ def run(program, words, text=b""):
 
 
 def chains(lines):
-    """The chains of a record: of each the settings line, and its entries as (number over all chains, format, line)."""
+    """Returns the chains of a record: of each the settings line, and its entries as (number over all chains, format, line)."""
     found, number = [], 0
     version, settings = "", ""
     for at, line in enumerate(lines):
@@ -36,7 +37,7 @@ def chains(lines):
 
 
 def target(words, version):
-    """The path of a request, from the words of its entry."""
+    """Returns the path of a request, from the words of its entry."""
     rendition, msn, part, skip = words
     if version == "1" and skip == "v2":
         skip = "YES"
@@ -45,7 +46,7 @@ def target(words, version):
 
 
 def replayed(program, settings, entries):
-    """The playlists of a script of these entries, by the numbers of their requests."""
+    """Replays a script of these entries. Returns its playlists, by the numbers of their requests."""
     script = [settings]
     for _, version, line in entries:
         words = line.split(" ")
@@ -54,7 +55,7 @@ def replayed(program, settings, entries):
             if version == "2" and words[1] in ("part", "init"):
                 item = item.rpartition(" ")[0]
             if words[1] == "init":
-                # (playlists don't tell how many bytes it has, and a script spells one at least)
+                # Playlists don't say how many bytes it has, and a script spells at least one.
                 item += " 00"
             script.append(f"pub cam {item}")
         elif words[0] == "A":
@@ -74,7 +75,7 @@ def replayed(program, settings, entries):
 
 
 def reply_words(told, text):
-    """A reply in words; the text tells whether it is a delta update, which format 1 doesn't. A request of format 1 never got one for `v2`."""
+    """Returns a reply in words. Its text says whether it is a delta update, which format 1 doesn't; a request of format 1 never got one for `v2`."""
     media = re.fullmatch("media ([0-9]+) ([0-9]+)", told)
     if media:
         return f"media of {media[2]} bytes after {media[1]} items"
@@ -87,7 +88,7 @@ def reply_words(told, text):
 
 
 def wanted(number, time, line, texts):
-    """What is to be told of an entry."""
+    """Returns what `explain` has to write of an entry."""
     words = line.split(" ")
     told, text = "", b""
     if words[0] == "P":
@@ -109,7 +110,7 @@ def wanted(number, time, line, texts):
 
 
 def first_wrong(program, path):
-    """The first entry of a record that isn't explained as it should be; none where all are, and the one after the last is NoEntry."""
+    """Returns the first entry of a record that isn't explained as it should be; none if all are, and the number after the last is NoEntry."""
     with open(path, encoding="utf-8", newline="") as record:
         lines = record.read().split("\n")
     last = 0

@@ -1,12 +1,12 @@
 /* follow PORT PUBLISH_PORT SCRIPT OUTPUT
 
    Does over sockets on loopback what a script of `llhls replay` says: its `pub` lines go to the publishers' port, its `bytes` lines to the players'
-   port, each connection of the script on a connection of its own, and `drop` closes it; lines that it doesn't know are passed over. The digits that end a
-   `pub` line of a part or a Media Initialization Section go as bytes after the line, which tells how many there are. OUTPUT is what
-   `llhls replay` wrote for the script: each connection must get exactly the bytes of its `sent` lines, and be closed where it has a `shut` line, and
-   each `pub` line must get its answer. All that is due by then is awaited before the next `pub` line, before the `drop` of a connection, and at the
-   end; then nothing more may have come. Before a `pub` line it waits some milliseconds where requests that it will free, or a later one, were sent,
-   so that they are held by then. A `bytes` line of one byte waits a millisecond. The first difference is told, and ends it with status 1. */
+   port, each connection of the script on a connection of its own, and `drop` closes it; lines that it doesn't know are skipped. The digits that end a
+   `pub` line of a part or a Media Initialization Section go as bytes after the line, which says how many there are. OUTPUT is what
+   `llhls replay` wrote for the script: each connection has to get exactly the bytes of its `sent` lines, and be closed if it has a `shut` line, and
+   each `pub` line has to get its answer. All that is due by then is awaited before the next `pub` line, before the `drop` of a connection, and at the
+   end; nothing more may have come by then. Before a `pub` line it waits some milliseconds if requests were sent that this line releases, or a later
+   one, so that they are held by then. A `bytes` line of one byte waits a millisecond. The first difference is printed, and ends it with status 1. */
 #include <arpa/inet.h>
 #include <errno.h>
 #include <netinet/tcp.h>
@@ -21,12 +21,12 @@
 #include <unistd.h>
 
 #define PATIENCE_MS 10000
-#define HOLD_US 30000         /* and so much more for each request: */
+#define HOLD_US 30000         /* and this much more for each request: */
 #define HOLD_EACH_US 100
 
 static const char media[] = "HTTP/1.1 200 OK\r\nContent-Type: video/mp4\r\n";
 
-/* What is due on a connection, from how many answers to `pub` lines on: so many bytes in all, or its end. */
+/* What is due on a connection: how many bytes in all, or its end, and after how many answers to `pub` lines. */
 struct due {
     long answers;
     size_t length;
@@ -35,9 +35,9 @@ struct due {
 
 struct connection {
     long number;
-    int socket;             /* -1 where it isn't open */
+    int socket;             /* -1 if it isn't open */
     int was_dropped;
-    char *wanted;           /* all that it must get */
+    char *wanted;           /* all that it has to get */
     size_t length, came;
     struct due *dues;
     size_t count;
@@ -101,7 +101,7 @@ static void read_output(FILE *output)
             c->wanted = grown(c->wanted, c->length + length);
             if (fread(c->wanted + c->length, 1, length, output) != length)
                 fail("the output is cut off");
-            /* an LF that isn't counted stands after media */
+            /* an LF that isn't counted follows media */
             if (length >= sizeof media - 1 && memcmp(c->wanted + c->length, media, sizeof media - 1) == 0)
                 getc(output);
             c->length += length;
@@ -130,7 +130,7 @@ static int connect_to(int port)
     return s;
 }
 
-/* Takes what is there, and compares it; tells whether the connection is still open. With `wait` it waits for something. */
+/* Takes what is there, and compares it. Returns whether the connection is still open. With `wait` it waits for something. */
 static int take(struct connection *c, int wait)
 {
     char bytes[65536];
@@ -154,7 +154,7 @@ static int take(struct connection *c, int wait)
     return 1;
 }
 
-/* Awaits all that is due on a connection, and that nothing more is there. */
+/* Awaits all that is due on a connection, and checks that nothing more is there. */
 static void settle(struct connection *c)
 {
     size_t due = 0, i;
@@ -193,7 +193,7 @@ static void settle_all(void)
         settle(&all[i]);
 }
 
-/* How many open connections get something with a later answer to a `pub` line. */
+/* Returns how many open connections get something with a later answer to a `pub` line. */
 static unsigned held(void)
 {
     unsigned count = 0;
@@ -204,7 +204,7 @@ static unsigned held(void)
     return count;
 }
 
-/* A failed write to a connection that the server may have closed by now is no fault: what came tells. */
+/* A failed write to a connection that the server may have closed by now is no fault: what came from it shows whether there is one. */
 static void send_all(int s, const char *bytes, size_t length, int may_fail)
 {
     while (length > 0) {
@@ -218,7 +218,7 @@ static void send_all(int s, const char *bytes, size_t length, int may_fail)
     }
 }
 
-/* The bytes of so many digits. */
+/* Returns the bytes of these digits. */
 static char *unhexed(const char *hex, size_t length)
 {
     char *bytes = grown(NULL, length);
@@ -232,7 +232,7 @@ static char *unhexed(const char *hex, size_t length)
     return bytes;
 }
 
-/* How long the digits are that end a line of a part or a Media Initialization Section, its LF not counted; 0 where it has none. */
+/* Returns how many digits end a line of a part or a Media Initialization Section, its LF not counted; 0 if none do. */
 static size_t digits(const char *line, size_t length)
 {
     char kind[5];
@@ -248,7 +248,7 @@ static size_t digits(const char *line, size_t length)
     return length - last;
 }
 
-/* Sends a line; the digits that end it as bytes after it. */
+/* Sends a line, and the digits that end it as bytes after it. */
 static void send_line(int publisher, const char *line, size_t length)
 {
     size_t hex = digits(line, length - 1);

@@ -1,8 +1,7 @@
 #!/usr/bin/env bash
-# gather_rows.sh FOLDER: makes this folder and puts all rows into it: those of tests/rows, those of tests/connections with their bytes in one piece, the examples of `docs/FORMATS.md` and of `make run`,
-# and those of long lines, which are made here.
-# A row is its script NAME, its output NAME.stdout, and NAME.args where it has words beside `replay`.
-# tests/endings says how a row ends that doesn't end with status 0.
+# gather_rows.sh FOLDER: makes FOLDER and puts all rows into it: those of tests/rows, those of tests/connections with their bytes in one piece, the
+# examples of `docs/SCRIPTS.md` and of `make run`, and those of long lines, which are made here. A row is its script NAME, its output NAME.stdout, and
+# NAME.args if it has words beside `replay`. tests/endings says how a row ends that doesn't end with status 0.
 . "$(dirname "${BASH_SOURCE[0]}")/common.sh" || exit 2
 set -e
 to=$(realpath -- "$1")
@@ -22,13 +21,13 @@ cp ../examples/held.expected "$to/held_example.stdout"
 settings='channel cam target=4 part=1000000 skip=24 window=36 renditions=hi first=0 start=0'
 part='pub cam part hi 1000000 if'
 
-# A comment of as many bytes, without its end.
+# comment BYTES: prints a comment of BYTES bytes, without its end of line.
 comment() {
     printf '#'
     many $(($1 - 1))
 }
 
-# row NAME OUTPUT: its script is standard input.
+# row NAME OUTPUT: makes a row whose script is standard input.
 row() {
     cat >"$to/$1"
     printf '%s' "$2" >"$to/$1.stdout"

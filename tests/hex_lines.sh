@@ -1,7 +1,7 @@
 #!/usr/bin/env bash
-# hex_lines.sh whole|bytes|PLACE: reads a script in which lines `say CONNECTION TEXT` stand for the bytes of a connection, and writes it
-# with `bytes` lines in their place: one for each text; or one for each byte; or two, cut after so many bytes, where it has more. In a
-# text, \r, \n and \\ stand for CR, LF and a backslash, \xHH for any byte. `many CONNECTION COUNT TEXT` stands for as many such texts.
+# hex_lines.sh whole|bytes|PLACE: reads a script in which lines `say CONNECTION TEXT` stand for the bytes of a connection, and writes it with `bytes`
+# lines in their place: one for each text, or one for each byte, or two, cut after PLACE bytes if the text has more. In a text, \r, \n and \\ stand
+# for CR, LF and a backslash, \xHH for any byte. `many CONNECTION COUNT TEXT` stands for COUNT such texts.
 set -eu
 LC_ALL=C awk -v way="$1" '
 BEGIN {

@@ -1,17 +1,17 @@
 #!/usr/bin/env bash
-# large.sh PROGRAM: scripts and playlists at the limits of size, since a program that gives up at some size could pass all small
-# rows. What is wanted is made here by awk from the rules. The last line is `N passed, M failed`.
+# large.sh PROGRAM: tests scripts and playlists at the limits of size, since a program that fails at some size could pass all small rows. What is
+# wanted is made here by awk, from the rules. The last line is `N passed, M failed`.
 . "$(dirname "${BASH_SOURCE[0]}")/common.sh" || exit 2
 take_program "$1"
 
-# run NAME STATUS FAULT WORD..: runs the program on the file `script` and compares what it writes with the file `wanted`.
+# run NAME STATUS FAULT WORD..: runs the program on the file `script`, and compares what it writes with the file `wanted`.
 run() {
     expect "$1" "$room/wanted" "${@:2}" <"$room/script"
 }
 
 settings='channel cam target=4 part=1000000 skip=24 window=36 renditions=hi first=0 start=0'
 
-# The lines of a playlist without segments of these settings, with these lines of date ranges in it.
+# playlist LINES: prints the playlist of a rendition without segments under these settings, with LINES, which are those of date ranges, in it.
 playlist() {
     printf '#EXTM3U\n#EXT-X-VERSION:10\n#EXT-X-TARGETDURATION:4\n'
     printf '#EXT-X-SERVER-CONTROL:CAN-BLOCK-RELOAD=YES,PART-HOLD-BACK=3.000000,CAN-SKIP-UNTIL=24.000000,CAN-SKIP-DATERANGES=YES\n'
@@ -20,13 +20,13 @@ playlist() {
     printf '#EXT-X-PRELOAD-HINT:TYPE=PART,URI="s0.0.m4s"\n'
 }
 
-# reply ID FILE: a reply with the text of a file.
+# reply ID FILE: prints a reply with the text of a file.
 reply() {
     printf 'reply %d 200 %d\n' "$1" "$(wc -c <"$2")"
     cat "$2"
 }
 
-# A line of 65,536 bytes that adds a date range, and one byte more.
+# A line of 65,536 bytes that adds a date range, and one of a byte more.
 range='ID="a",START-DATE="1970-01-01T00:00:00Z",X-A="'
 space=$((65536 - 17 - ${#range} - 1))
 line="pub cam range hi $range$(many "$space")\""
@@ -38,7 +38,7 @@ printf '%s\n%sx"\n' "$settings" "${line%\"}" >"$room/script"
 : >"$room/wanted"
 run date_range_line_of_65537_bytes 3 'llhls: LineTooLong 2' replay
 
-# Lists of 200 and of 8,000 attributes, and of as many of which the last has the name of another.
+# Lists of 200 and of 8,000 attributes, and the same lists with one attribute more, whose name is there already.
 for count in 200 8000; do
     list='ID="a",START-DATE="1970-01-01T00:00:00Z"'$(awk -v n="$count" 'BEGIN { for (i = 1; i <= n; i++) printf ",X-%d=1", i }')
     printf '%s\npub cam range hi %s,X-1=2\npub cam range hi %s\nget 1 /cam/hi/live.m3u8\n' "$settings" "$list" "$list" >"$room/script"
@@ -47,7 +47,7 @@ for count in 200 8000; do
         { printf 'no 9 BadAttribute\nok 1\n'; reply 1 "$room/text"; } >"$room/wanted"
         run "list_of_${count}_attributes" 0 '' replay
     else
-        # (the line is longer than a script's may be)
+        # The line is longer than a line of a script can be.
         : >"$room/wanted"
         run "list_of_${count}_attributes" 3 'llhls: LineTooLong 2' replay
     fi
@@ -68,8 +68,8 @@ awk 'BEGIN {
 } >"$room/wanted"
 run a_hundred_channels 0 '' replay
 
-# As many requests wait as a channel holds: the next one is Busy. Where one is given up, one more waits. At the end a reading of the clock
-# answers them all, in order of asking.
+# As many requests wait as can wait in a channel; the next one is Busy. Once one is closed, one more waits. At the end a reading of the clock answers
+# them all, in order of asking.
 awk -v settings="$settings" 'BEGIN {
     target = "/cam/hi/live.m3u8?_HLS_msn=1"
     print settings "\npub cam part hi 1000000 i"
@@ -83,7 +83,7 @@ awk -v settings="$settings" 'BEGIN {
 } >"$room/wanted"
 run as_many_wait_as_may 0 '' replay
 
-# day COUNT SKIPPED: the playlist of a window of a day after so many segments of a second, of which a delta update skips so many.
+# day COUNT SKIPPED: prints the playlist of a window of a day after COUNT segments of a second each, of which a delta update skips SKIPPED.
 day() {
     awk -v count="$1" -v skipped="$2" 'BEGIN {
         print "#EXTM3U\n#EXT-X-VERSION:10\n#EXT-X-TARGETDURATION:1"
@@ -102,7 +102,7 @@ day() {
     }'
 }
 
-# A window of a day of segments of a second, and its delta update: 7 MB. Six seconds later `apply` makes the one of the other.
+# A window of a day of segments of a second, and its delta update: 7 MB. Six seconds later, `apply` makes the new playlist of the old one.
 day 86402 0 >"$room/base"
 day 86408 0 >"$room/full"
 day 86408 86393 >"$room/delta"
@@ -126,7 +126,7 @@ run a_day_of_segments 0 '' replay
 cp "$room/full" "$room/wanted"
 run a_delta_update_of_a_day 0 '' apply "$room/base" "$room/delta"
 
-# Ten thousand segments of four parts: the window shows the last nine, and the last three of them list their parts.
+# Ten thousand segments of four parts: the window shows the last nine, and the last three of these list their parts.
 awk -v settings="$settings" 'BEGIN {
     print settings
     for (part = 0; part < 40000; part++) print "pub cam part hi 1000000 " (part % 4 == 0 ? "i" : part % 4 == 3 ? "f" : "-")

@@ -1,11 +1,12 @@
 #!/usr/bin/env bash
-# log.sh PROGRAM: `llhls serve` with a line `log` in its settings, on real sockets: after a minute the file has a line for each channel, which tells just what came.
-# It takes a little more than that minute. Then comes a file that can't be opened. The last line is `N passed, M failed`.
+# log.sh PROGRAM: tests `llhls serve` with a line `log` in its settings, on real sockets: after a minute the file has a line for each channel, which
+# counts exactly what came. This takes a little more than that minute. Then it tests a file that can't be opened. The last line is `N passed, M
+# failed`.
 . "$(dirname "${BASH_SOURCE[0]}")/server.sh" || exit 2
 take_program "$1"
 two='channel two target=60 part=60000000 skip=360 window=540 renditions=hi first=0 start=0'
 
-# tells LINE: the file has this line after the time.
+# tells LINE: tests that the file has this line after the time.
 tells() {
     if grep -qxE "[0-9]{4}-[0-9]{2}-[0-9]{2}T[0-9:.]{12}Z $1" "$room/numbers"; then
         pass
@@ -16,12 +17,12 @@ tells() {
 }
 
 serve "$program" 'workers 16' "log $room/numbers" "$cam" "$two" || give_up 'no server'
-# (two requests that wait for longer than a minute)
+# Two requests that wait for longer than a minute.
 for number in 1 2; do
     exec {player}<>"/dev/tcp/127.0.0.1/$port" || give_up 'no connection'
     request '/two/hi/live.m3u8?_HLS_msn=0' >&"$player"
 done
-# (a request that waits, and is answered by a part after 0.2 s)
+# A request that waits, and is answered by a part after 0.2 s.
 ask '/cam/hi/live.m3u8?_HLS_msn=0&_HLS_part=0' >"$room/held" &
 sleep 0.2
 while read -r line answer; do

@@ -1,8 +1,8 @@
 #!/usr/bin/env bash
-# mutated_heads.sh PROGRAM: makes a thousand mutated heads from those of tests/connections, feeds each to a connection of its own, in one
-# piece and cut in two, and lets the clock pass all time-outs. Both runs write the same; each writes whole responses alone, as many bytes as
-# it tells, none after `shut`; and another connection, fed before and after, gets its playlist. At least a tenth are answered with a
-# playlist or media, and a tenth are refused. The last line, `N passed, M failed`, counts heads, and a tenth that was missed.
+# mutated_heads.sh PROGRAM: makes a thousand mutated heads from those of tests/connections, feeds each to a connection of its own, in one piece and
+# cut in two, and lets the clock pass all time-outs. Both runs have to write the same: whole responses alone, each with as many bytes as it announces,
+# and none after `shut`; and another connection, fed before and after, has to get its playlist. At least a tenth are answered with a playlist or
+# media, and at least a tenth are refused. The last line, `N passed, M failed`, counts heads, and a tenth that was missed.
 . "$(dirname "${BASH_SOURCE[0]}")/common.sh" || exit 2
 take_program "$1"
 most=1000
@@ -18,7 +18,8 @@ while read -r _ _ hex; do
 done < <(for row in "$here"/connections/*.stdout; do "$here/hex_lines.sh" whole <"${row%.stdout}"; done | grep '^bytes')
 plain=474554202f63616d2f68692f6c6976652e6d33753820485454502f312e310d0a486f73743a20610d0a0d0a
 
-# change: changes one or two bytes of hex: another value, one out, one twice, one of those that heads are made of, or its end cut off.
+# change: changes one or two bytes of `hex`: gives one another value, removes it, doubles it, replaces it by one of those that heads are made of, or
+# cuts off what follows it.
 special=(0d 0a 20 3a 00 2f 3f 26 3d 2c 09 7f c3 25 31 30)
 change() {
     local times=$((1 + RANDOM % 2)) at
@@ -38,14 +39,15 @@ change() {
     done
 }
 
-# script HEX..: connection 2 is served before and after the bytes of connection 1.
+# script HEX..: prints a script in which connection 2 is served before and after the bytes of connection 1.
 script() {
     printf '%s\nbytes 2 %s\n' "$cam" "$plain"
     printf 'bytes 1 %s\n' "$@"
     printf 'pub cam part hi 1000000 if\nclock 100000\nbytes 2 %s\n' "$plain"
 }
 
-# Whether the output is made of whole responses, with connection 2's as they should be: leaves in states those of connection 1.
+# is_right FILE: returns whether the output is made of whole responses, with connection 2's as they should be, and prints the statuses of connection
+# 1.
 is_right() {
     awk 'BEGIN { RS = "\n"; state = "" }
     left > 0 {

@@ -1,17 +1,17 @@
 #!/usr/bin/env bash
-# mutated_playlists.sh PROGRAM: makes a thousand mutated playlists from the rows of tests/apply, in turn of the base and of
-# the delta, and puts each in its row's place. `apply` then ends with status 3, nothing written and one fault, which is of
-# the mutated playlist or NotRecent; or with status 0, no fault, and a text that, applied to itself, is itself. At least a
-# third end each way. The last line, `N passed, M failed`, counts playlists, and a third that was missed.
+# mutated_playlists.sh PROGRAM: makes a thousand mutated playlists from the rows of tests/apply, of the base and of the delta by turns, and puts each
+# in its row's place. `apply` then has to end with status 3, nothing written and one fault, which is of the mutated playlist or NotRecent; or with
+# status 0, no fault, and a text that, applied to itself, is itself. At least a third end each way. The last line, `N passed, M failed`, counts
+# playlists, and a third that was missed.
 . "$(dirname "${BASH_SOURCE[0]}")/common.sh" || exit 2
 take_program "$1"
 most=1000
-# How many ended with a text, and with a fault.
+# How many runs ended with a text, and how many with a fault.
 applied=0
 refused=0
 RANDOM=1
 
-# The rows whose playlists both can be read.
+# The rows of which both playlists can be read.
 rows=()
 for row in "$here"/apply/*/; do
     row=${row%/}
@@ -21,13 +21,13 @@ for row in "$here"/apply/*/; do
     fi
 done
 
-# change KIND: changes text, which may come out as it was. (Digits are changed more often than others: much else is refused.)
+# change KIND: changes `text`; the result can be what it was. Digits are changed more often than others, since most other changes are refused.
 bytes=(0 7 9 '"' ',' ':' $'\r' $'\n' $'\xff' x)
 kinds=(byte byte digit digit digit digit digit digit byte_out line_out line_twice line_exchanged cut)
 change() {
     local at=$((RANDOM % ${#text})) lines line
     mapfile lines <<<"$text"
-    # (this put an LF after the last line)
+    # The here-string has put an LF after the last line.
     lines[-1]=${lines[-1]%$'\n'}
     line=$((RANDOM % ${#lines[@]}))
     case $1 in
@@ -51,7 +51,7 @@ change() {
     esac
 }
 
-# Whether the run ended as it may, with the mutated playlist in place of the row's SIDE.
+# is_right SIDE: returns whether the run ended as it should, with the mutated playlist in place of the row's SIDE.
 is_right() {
     local side=$1 faults status
     case $side in
@@ -98,7 +98,7 @@ for ((number = 0; number < most; number++)); do
         pass
     else
         fail "${row##*/}, its $side mutated ($kind, number $number): $(head -c 2000 "$room/stderr")"
-        # (a program that is wrong at each would fill the screen)
+        # A program that is wrong at each playlist would fill the screen.
         if [ "$failed" -le 3 ]; then
             diff -a "$row/$side" "$room/$side"
         fi

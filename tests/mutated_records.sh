@@ -1,11 +1,11 @@
 #!/usr/bin/env bash
-# mutated_records.sh PROGRAM: changes one byte of a long record of two chains, with chunks of either format, at a thousand random places. `check` then tells an entry and a name, with
-# status 3, and no entry before the one that the changed byte stands in; or that the record is right, where the byte tells nothing. Nothing else
-# is written. The last line, `N passed, M failed`, counts records, and one for records of which fewer than nine tenths were found wrong.
+# mutated_records.sh PROGRAM: changes one byte of a long record of two chains, with chunks of either format, at a thousand random places. `check` then
+# has to name a fault with status 3, at no entry before the one with the changed byte; or to find the record right, if the byte means nothing. Nothing
+# else is written. The last line, `N passed, M failed`, counts records, and one test that nine tenths of them were found wrong.
 . "$(dirname "${BASH_SOURCE[0]}")/common.sh" || exit 2
 take_program "$1"
 most=1000
-# How many were found wrong.
+# How many records were found wrong.
 bad=0
 RANDOM=1
 
@@ -31,7 +31,7 @@ for ((number = 0; number < most; number++)); do
         right=yes
     elif [ "$status" = 3 ] && [[ $said =~ ^bad\ ([0-9]+)\ (BadChunk|Gap|OtherChannel|Refused|WrongReply)$ ]]; then
         bad=$((bad + 1))
-        # what stands before the byte is right: its entries are those of the lines that begin with a capital and a space
+        # What stands before the byte is right: its entries are the lines that begin with a capital and a space.
         before=$(head -c "$at" "$room/record" | grep -c '^[PACGX] ')
         if [ "${BASH_REMATCH[1]}" -ge "$before" ] && [ "${BASH_REMATCH[1]}" -ge 1 ]; then
             right=yes

@@ -1,6 +1,5 @@
 #!/usr/bin/env bash
-# Prints the path of the proved program, and builds it first where it isn't there as the sources are now.
-# LLHLS names another program to take.
+# Prints the path of the proved program, which it builds first if it isn't there as the sources are now. LLHLS names another program to take.
 set -eu
 if [ -n "${LLHLS-}" ]; then
     realpath -- "$LLHLS"

@@ -1,21 +1,21 @@
 #!/usr/bin/env python3
-"""What tests/push.sh needs beside the shell: inputs that are made by hand, the messages that they are to become, peers that behave so and so, and a player.
+"""What tests/push.sh needs beside the shell: inputs that are made by hand, the messages that they have to become, peers that behave as a plan says, and a player.
 
-push.py input NAME              writes the input of this name
-push.py messages FILE [WORD..]  writes the messages of what this file holds, for cam and hi: with `end`, the rendition's end too; with `ahead=no`, as for encoders whose fragments are
-                                parts; with `at=NUMBER,INDEX,END,TIME`, for a rendition that stands there, and not for one without parts; `now=MS` is the time of the clock
+push.py input NAME              writes the input NAME
+push.py messages FILE [WORD..]  writes the messages of the input in FILE, for cam and hi: with `end`, the rendition's end too; with `ahead=no`, as for encoders whose fragments are
+                                parts; with `at=NUMBER,INDEX,END,TIME`, for a rendition that stands there instead of one without parts; `now=MS` is the time of the clock
 push.py published FILE          writes the sections and the parts of these messages, as players get them
-push.py fault FILE              writes the fault that ends it, where one does
-push.py later FILE MICROS       writes standard input, a part of this file, with its times so many microseconds later
+push.py fault FILE              writes the fault that ends them, if one does
+push.py later FILE MICROS       writes standard input, a part of FILE, with its times MICROS microseconds later
 push.py slowly NAME             writes the input with a pause before each fragment
-push.py begin NAME COUNT        writes the beginning of the input, up to the end of so many fragments
+push.py begin NAME COUNT        writes the beginning of the input, up to the end of COUNT fragments
 push.py damaged SEED            writes the input `many` with some bytes changed, or cut off
-push.py peer FILE RECORD PLAN [AT]  is an origin: writes its port to FILE, and to RECORD what it has accepted. It tells where its rendition stands, at first at AT. PLAN has for each
+push.py peer FILE RECORD PLAN [AT]  is an origin: writes its port to FILE, and to RECORD what it has accepted. It answers where its rendition stands, at first at AT. PLAN says for each
                                 connection, separated by `/`, what becomes of each message, separated by `,`: `ok`; `lose` accepts it and hangs up; `drop` takes it and hangs up; `half`
-                                takes some of it and hangs up; `close` hangs up before it; else the answer. What begins with `?` is so for the question where the rendition stands, and
-                                comes first
+                                takes some of it and hangs up; `close` hangs up before it; anything else is the answer. What begins with `?` applies to the question where the rendition
+                                stands, and comes first
 push.py terminal WORD..         runs a program of these words with a terminal as its standard error, and writes what that shows
-push.py play PORT CHANNEL FILE  gets all that the playlist of hi names, whose bytes are to be those of FILE; what is left of FILE may be whole boxes
+push.py play PORT CHANNEL FILE  gets all that the playlist of hi names, whose bytes have to be those of FILE; what is left of FILE may be whole boxes
 """
 import os
 import pty
@@ -54,7 +54,7 @@ def sound(tick):
 
 
 def both(ticks, jump=0):
-    """A picture of 25 frames a second from these ticks on, with a sync sample each second, and sound beside it."""
+    """Returns fragments of a picture of 25 frames a second at these ticks, with a sync sample each second, and of sound beside it."""
     return [[picture(tick, n % 25 == 0), sound(tick * 48000 // 12800 + jump)] for n, tick in enumerate(ticks)]
 
 
@@ -64,7 +64,7 @@ def whole(fragments, first=BOTH):
 
 BEFORE = FTYP + MOOV + fragment([500])
 INPUTS = {
-    # inputs that are refused after the movie and a fragment, or at once
+    # Inputs that are refused after the movie and a fragment, or at once.
     'bad_box': BEFORE + numbers(7) + b'free',
     'endless_box': BEFORE + numbers(0) + b'mdat',
     'large_box': BEFORE + numbers(1 << 21) + b'free',
@@ -78,7 +78,7 @@ INPUTS = {
     'two_moofs': BEFORE + moof([100]) + moof([100]) + MDAT,
     'cut': BEFORE + fragment([500])[:-1],
     'no_mdat': BEFORE + moof([500]),
-    # and such that aren't
+    # Inputs that aren't refused.
     'second_movie': BEFORE + FTYP + MOOV + fragment([400]),
     'two_tracks': FTYP + movie(track(1, 1000), track(2, 1000)) + fragment([500]),
     'samples_alone': BEFORE + MDAT + fragment([400]),
@@ -92,7 +92,7 @@ INPUTS = {
 
 
 def pieces(name):
-    """The initialization section and the fragments of a stream."""
+    """Returns the initialization section and the fragments of a stream."""
     return [FTYP + MOOV] + [fragment(ticks, 0 if sync else PLAIN) for ticks, sync in STREAMS[name]]
 
 
@@ -104,7 +104,7 @@ LENGTHS = push_model.Lengths(part=500000, segment=2000000, most=3000000)
 
 
 def sent(name, *words):
-    """The messages of what a file holds, and the fault that ends it."""
+    """Returns the messages of the input in a file, and the fault that ends it."""
     said = dict(word.partition('=')[::2] for word in words)
     lengths = LENGTHS._replace(ahead='ahead' not in said)
     with open(name, 'rb') as file:
@@ -113,7 +113,7 @@ def sent(name, *words):
 
 
 def published(name):
-    """The sections and parts of its messages. A player gets a section that is sent again after a break again."""
+    """Returns the sections and parts of its messages. A section that is sent once more after a break comes to players once more."""
     bodies = [message.partition(b'\n')[2][:-1] for message in sent(name)[0]]
     return b''.join(bodies)
 
@@ -143,7 +143,7 @@ def slowly(name):
 
 
 def take(stream):
-    """A message, which is empty where none comes any more."""
+    """Returns the next message, which is empty if no more comes."""
     line = stream.readline()
     words = line.split()
     if len(words) in (4, 6) and words[1] in (b'init', b'part'):
@@ -160,7 +160,7 @@ class Origin:
 
     def accept(self, message):
         words = message.partition(b'\n')[0].split()
-        # (a section or a break that comes once more means the same, and only may where its answer was lost)
+        # A section or a break that comes once more means the same, and is allowed only if its answer was lost.
         if message != self.lost or words[1] not in (b'init', b'break'):
             self.record.write(message)
         self.count, self.lost = self.count + 1, b''
@@ -176,12 +176,12 @@ class Origin:
 
 
 def hang_up(link):
-    # (with bytes unread the other end gets a reset)
+    # With bytes unread, the other end gets a reset.
     link.setsockopt(socket.SOL_SOCKET, socket.SO_LINGER, struct.pack('ii', 1, 0))
 
 
 def meet(link, stream, what):
-    """The question where the rendition stands: whether the connection goes on after it."""
+    """Answers the question where the rendition stands. Returns whether the connection goes on after it."""
     if what == 'close':
         return False
     if what == 'half':
@@ -196,10 +196,10 @@ def meet(link, stream, what):
 
 
 def serve(link, plan, origin):
-    """One connection."""
+    """Serves one connection."""
     stream = link.makefile('rb')
     asked = plan.pop(0)[1:] if plan[0].startswith('?') else origin.told()
-    # (the answer and the end of the connection go together: whoever has read the one sees the other)
+    # The answer and the end of the connection go together: whoever has read the one sees the other.
     if plan[:1] == ['close']:
         link.setsockopt(socket.IPPROTO_TCP, socket.TCP_CORK, 1)
     if not meet(link, stream, asked):
@@ -232,7 +232,7 @@ def place_of(words):
 
 def peer(file, name, plan, at=None):
     listener = socket.create_server(('127.0.0.1', 0))
-    # (what is accepted is seen there at once)
+    # What is accepted is seen in the file at once.
     with open(name, 'wb', buffering=0) as record:
         origin = Origin(record, place_of(at) if at else push_model.Standing())
         with open(file, 'w') as told:
@@ -303,7 +303,7 @@ elif command == 'slowly':
     try:
         slowly(*words)
     except BrokenPipeError:
-        # (the program has ended before its input)
+        # The program has ended before its input.
         sys.exit(1)
 elif command == 'begin':
     sys.stdout.buffer.write(b''.join(pieces(words[0])[:1 + int(words[1])]))

@@ -1,25 +1,26 @@
 #!/usr/bin/env bash
-# push.sh PROGRAM: `llhls push` with real sockets on loopback. Inputs that tests/push.py makes go to `llhls serve`, and to peers that hang up, refuse or answer nonsense: what was sent
-# is compared with messages that are made beside it, and what is served with the input. Where there is ffmpeg, its output goes the same way. The last line is `N passed, M failed`.
+# push.sh PROGRAM: tests `llhls push` with real sockets on loopback. Inputs that tests/push.py makes go to `llhls serve`, and to peers that hang up,
+# refuse or answer nonsense. What was sent is compared with messages that are made beside it, and what is served with the input. If ffmpeg is
+# installed, its output goes the same way. The last line is `N passed, M failed`.
 . "$(dirname "${BASH_SOURCE[0]}")/server.sh" || exit 2
 take_program "$1"
 
 # The rendition's time is ahead of any clock, so that what is published needs no time of its own.
 cam=${cam/start=0/start=4000000000000}
 
-# make WORD..: what tests/push.py says to these words.
+# make WORD..: prints what tests/push.py prints for these words.
 make() {
     python3 "$here/push.py" "$@"
 }
 
-# push ADDRESS [CHANNEL [WORD..]]: the program publishes standard input, and ends the rendition, or what other words say.
+# push ADDRESS [CHANNEL [WORD..]]: has the program publish standard input, and end the rendition, unless other words are given.
 push() {
     local words=("${@:3}")
     [ "$#" -ge 3 ] || words=(retry=2 end)
     timeout 60 "$program" push "$1" "${2-cam}" hi part=500000 segment=2000000 "${words[@]}" >"$room/stdout" 2>"$room/stderr"
 }
 
-# pushes STATUS FAULT ADDRESS: it does so and ends with this status, and the last line that it tells is this fault, where there is one.
+# pushes STATUS FAULT ADDRESS: pushes as `push` does, and tests that it ends with STATUS, and that its last line is FAULT, if that isn't empty.
 pushes() {
     local status
     push "$3"
@@ -30,24 +31,24 @@ pushes() {
     fi
 }
 
-# to_server STATUS FAULT NAME [CHANNEL]: the input of this name goes to the server.
+# to_server STATUS FAULT NAME [CHANNEL]: pushes the input NAME to the server.
 to_server() {
     serve "$program" 'workers 4' "${4-$cam}" || return 1
     make input "$3" >"$room/input"
     pushes "$1" "$2" "127.0.0.1:$publish_port" <"$room/input"
 }
 
-# What the server then has are the bytes of the input's messages.
+# The server then has the bytes of the input's messages.
 is_served_whole() {
     to_server 0 '' "$1" && plays_input
 }
 
-# plays_input [CHANNEL]: players get what was published of the input.
+# plays_input [CHANNEL]: tests that players get what was published of the input.
 plays_input() {
     make published "$room/input" >"$room/published" && make play "$port" "${1-cam}" "$room/published"
 }
 
-# peer PLAN [AT]: starts an origin that behaves so (tests/push.py), at `peer`.
+# peer PLAN [AT]: starts an origin that behaves as PLAN says (tests/push.py), and sets `peer` to its address.
 peer() {
     local tries
     rm -f "$room/port"
@@ -60,12 +61,12 @@ peer() {
     return 1
 }
 
-# to_peer PLAN NAME STATUS FAULT: an input goes to such an origin.
+# to_peer PLAN NAME STATUS FAULT: pushes the input NAME to such an origin.
 to_peer() {
     peer "$1" && make input "$2" >"$room/input" && pushes "$3" "$4" "$peer" <"$room/input"
 }
 
-# took NAME [WORD..]: what the origin has accepted are the messages of an input.
+# took NAME [WORD..]: tests that the origin has accepted exactly the messages of an input.
 took() {
     make input "$1" >"$room/input" && make messages "$room/input" end "${@:2}" | cmp - "$room/taken"
 }
@@ -74,24 +75,24 @@ sends_its_messages() {
     to_peer "$2" "$1" 0 '' && took "$1"
 }
 
-# said_lost COUNT: the program has told so often that the connection is lost.
+# said_lost COUNT: tests that the program has reported COUNT times that the connection is lost.
 said_lost() {
     [ "$(grep -c 'the connection is lost' "$room/stderr")" = "$1" ]
 }
 
-# hangs_up PLAN COUNT: the origin hangs up before messages, so often. Each is told, and the program goes on.
+# hangs_up PLAN COUNT: the origin hangs up COUNT times before messages. The program reports each, and goes on.
 hangs_up() {
     peer "$1" || return 1
     make slowly two | push "$peer" || { cat "$room/stderr"; return 1; }
     said_lost "$2" && took two
 }
 
-# goes_on_after PLAN COUNT: connections are lost so, so often, and the origin has each message once in the end.
+# goes_on_after PLAN COUNT: COUNT connections are lost as PLAN says, and the origin has each message once in the end.
 goes_on_after() {
     peer "$1" && make input two >"$room/input" && push "$peer" <"$room/input" && said_lost "$2" && took two
 }
 
-# goes_on_everywhere NAME COUNT: each of so many messages of an input is lost in each way, and so is each connection's question once.
+# goes_on_everywhere NAME COUNT: each of the first COUNT messages of an input is lost in each way, and so is each connection's question once.
 goes_on_everywhere() {
     local plan='' n how
     make input "$1" >"$room/input"
@@ -105,13 +106,14 @@ goes_on_everywhere() {
     done
 }
 
-# wait_for_peer: the last origin has ended.
+# wait_for_peer: waits until the last origin has ended.
 wait_for_peer() {
     wait "${servers[-1]}"
     unset 'servers[-1]'
 }
 
-# starts_at AT [LINE..]: a push to a rendition that stands there sends these lines before its section, in which the clock's time is NOW; and then what is made beside it.
+# starts_at AT [LINE..]: a push to a rendition that stands at AT sends these lines before its section, with NOW for the clock's time, and then the
+# messages that are made beside it.
 starts_at() {
     local before after now lines
     make input two >"$room/input"
@@ -126,14 +128,14 @@ starts_at() {
     make messages "$room/input" end "at=$1" "now=${now:-0}" | cmp - "$room/taken"
 }
 
-# has_taken COUNT: the origin has taken so many messages.
+# has_taken COUNT: tests that the origin has taken COUNT messages.
 has_taken() {
     local count
     count=$(grep -a -c '^cam ' "$room/taken")
     [ "$count" = "$1" ] || { echo "the origin has taken $count messages"; return 1; }
 }
 
-# took_first COUNT NAME: what the origin has accepted until it ended are so many messages, the first of an input.
+# took_first COUNT NAME: tests that the origin, until it ended, has accepted exactly the first COUNT messages of an input.
 took_first() {
     wait "${servers[-1]}"
     servers=()
@@ -152,7 +154,7 @@ no_server() {
     make input one | pushes 4 Connect "$peer"
 }
 
-# The origin ends after its first connection: after a while the program gives up. With `retry=0` it does so at once.
+# The origin ends after its first connection: after a while the program stops trying. With `retry=0` it stops at once.
 server_goes_away() {
     peer ok,close || return 1
     make slowly two | pushes 4 Connect "$peer"
@@ -164,13 +166,13 @@ gives_up_at_once() {
     [ $? = 4 ] && [ "$(tail -n 1 "$room/stderr")" = 'llhls: Connect' ]
 }
 
-# Where nothing is accepted again and again, it gives up as well: `retry=2` are four times after the first.
+# The program stops trying also if nothing is accepted again and again: `retry=2` means four times after the first.
 gives_up_where_nothing_goes() {
     peer ok,drop/drop/half/?drop/drop || return 1
     make input two | pushes 4 Connect "$peer" && said_lost 5
 }
 
-# wrong WORD..: these words are none.
+# wrong WORD..: tests that the program refuses these words.
 wrong() {
     timeout 10 "$program" push "$@" </dev/null >"$room/stdout" 2>"$room/stderr"
     [ $? = 2 ] && [ "$(<"$room/stderr")" = 'llhls: usage' ]
@@ -182,7 +184,7 @@ reads_fail() {
     pushes 4 Read "$peer" <"$room"
 }
 
-# Where standard error is a terminal, it has a line of what was published so far, once a second at most, and one of its own for each fault.
+# If standard error is a terminal, it has a line of what was published so far, at most once a second, and a line for each fault.
 tells_how_it_goes() {
     peer 'ok,ok,ok,ok,no 4 TooLong\n' || return 1
     make slowly many | python3 "$here/push.py" terminal "$program" push "$peer" cam hi part=500000 segment=2000000 >"$room/shown"
@@ -227,7 +229,8 @@ comes() {
     "$@"
 }
 
-# lists WORD..: the playlist of hi has these, in order: sections and parts, segments with their seconds, the next part after `then`, breaks and the end.
+# lists WORD..: tests that the playlist of hi has these, in order: sections and parts, segments with their seconds, the next part after `then`, breaks
+# and the end.
 lists() {
     local words
     words=$(ask /cam/hi/live.m3u8 | tr -d '\r' | sed -nE 's/^#EXT-X-MAP:URI="(.*)\.mp4"$/\1/p; s/^#EXT-X-PART:.*URI="([^"]*)\.m4s".*$/\1/p; s/^#EXT-X-PRELOAD-HINT:TYPE=PART,URI="(.*)\.m4s"$/then \1/p
@@ -236,22 +239,22 @@ lists() {
     [ "$words" = "$*" ] || { echo "the playlist has $words"; return 1; }
 }
 
-# begin ADDRESS COUNT: starts a push, `pushing`, which publishes so many parts of `many`: a part is known to be whole once two more fragments have come. Of the next one its input has all but the last byte, and
-# then neither goes on nor ends.
+# begin ADDRESS COUNT: starts a push, `pushing`, which publishes COUNT parts of `many`; a part is known to be whole once two more fragments have come.
+# Its input has all of the next part but the last byte, and then neither goes on nor ends.
 begin() {
     local pipe
     rm -f "$room/pipe"
     mkfifo "$room/pipe" || return 1
     exec {pipe}<>"$room/pipe"
     make begin many "$(($2 + 3))" | head -c -1 >&"$pipe"
-    # (what a script starts in the background ignores SIGINT otherwise)
+    # What a script starts in the background ignores SIGINT otherwise.
     env --default-signal=INT "$program" push "$1" cam hi part=500000 segment=2000000 <&"$pipe" >"$room/stdout" 2>"$room/stderr" &
     pushing=$!
     servers+=("$pushing")
     exec {pipe}>&-
 }
 
-# end_by SIGNAL: that push gets this signal, and ends by it and tells nothing.
+# end_by SIGNAL: sends that push this signal, and tests that it ends by it and prints nothing.
 end_by() {
     local tries status
     kill -s "$1" "$pushing"
@@ -269,11 +272,12 @@ end_by() {
     fi
 }
 
-# What is listed of a push that is stopped after a segment, and after two parts of the next one.
+# The playlists of a push that is stopped after a segment, and after two parts of the next one.
 four=(init0 s0.{0..3} s0=2.000000 then s1.0)
 six=(init0 s0.{0..3} s0=2.000000 s1.{0,1} then s1.2)
 
-# stopped SIGNAL CHANNEL COUNT WORD..: a push gets this signal after so many parts, amid its input. They are listed before and after it, without an end.
+# stopped SIGNAL CHANNEL COUNT WORD..: sends a push this signal after COUNT parts, in the middle of its input. The playlist has WORD.. before and
+# after it, without an end.
 stopped() {
     serve "$program" 'workers 4' "$2" && begin "127.0.0.1:$publish_port" "$3" && comes lists "${@:4}" && end_by "$1" && lists "${@:4}"
 }
@@ -283,32 +287,32 @@ sends_no_end() {
     peer ok,ok,ok,ok,ok,ok,ok && begin "$peer" 6 && comes has_taken 7 && end_by "$1" && took_first 7 many
 }
 
-# again STATUS FAULT WORD..: a further push, of the whole input, ends so, and then this is listed.
+# again STATUS FAULT WORD..: pushes the whole input once more, and tests how that ends and what the playlist has then.
 again() {
     make input many >"$room/input"
     pushes "$1" "$2" "127.0.0.1:$publish_port" <"$room/input" && lists "${@:3}"
 }
 
-# A further push ends the segment that is open and begins one of its own, after a break. Players get all of both pushes.
+# A further push finishes the segment that is open and begins one of its own, after a break. Players get all of both pushes.
 begins_anew_amid() {
     stopped TERM "$short" 6 "${six[@]}" &&
         again 0 '' init0 s0=2.000000 s1.{0,1} s1=1.000000 DISCONTINUITY init1 s2.{0..3} s2=2.000000 s3.{0..3} s3=2.000000 s4.{0,1} s4=1.000000 ENDLIST &&
         plays_both 6
 }
 
-# So it does where no segment is open.
+# It does the same if no segment is open.
 begins_anew_between() {
     stopped INT "$short" 4 "${four[@]}" &&
         again 0 '' init0 s0.{0..3} s0=2.000000 DISCONTINUITY init1 s1.{0..3} s1=2.000000 s2.{0..3} s2=2.000000 s3.{0,1} s3=1.000000 ENDLIST &&
         plays_both 4
 }
 
-# dates: the times of the segments that are listed, in seconds and milliseconds since 1970.
+# dates: prints the times of the segments in the playlist, in milliseconds since 1970.
 dates() {
     ask /cam/hi/live.m3u8 | tr -d '\r' | sed -n 's/^#EXT-X-PROGRAM-DATE-TIME://p' | while read -r time; do date -d "$time" +%s%3N; done
 }
 
-# Where the channel's time is behind the clock, the first segment has the clock's, and so has the first one of a further push.
+# If the channel's time is behind the clock, the first segment has the clock's time, and so has the first one of a further push.
 tells_the_time() {
     local before between after times
     before=$(date +%s%3N)
@@ -321,19 +325,19 @@ tells_the_time() {
     [ "${#times[@]}" = 2 ] && ((before <= times[0] && times[0] <= between && between + 1200 <= times[1] && times[1] <= after)) || { echo "${times[*]} of $before $between $after"; return 1; }
 }
 
-# plays_both COUNT: what is served are so many parts, and then the whole input.
+# plays_both COUNT: tests that COUNT parts are served, and then the whole input.
 plays_both() {
     { make begin many "$1" && make input many; } >"$room/both"
     make play "$port" cam "$room/both"
 }
 
-# A further push after one whose input has ended is refused, and nothing changes.
+# A further push after one whose input has ended is refused, and changes nothing.
 comes_after_end() {
     to_server 0 '' two && lists init0 s0.{0,1} s0=1.000000 ENDLIST && again 3 'no 2 Ended' init0 s0.{0,1} s0=1.000000 ENDLIST &&
         make input two >"$room/input" && plays_input
 }
 
-# encoder_comes_so NAME: what an encoder wrote comes to an origin as its messages, and ends as the input does.
+# encoder_comes_so NAME: tests that what an encoder wrote comes to an origin as its messages, and ends as the input does.
 encoder_comes_so() {
     local fault status
     cp "$here/push/$1.mp4" "$room/input"
@@ -350,13 +354,13 @@ ends_nothing() {
         lists init0 s0.{0,1} s0=1.000000 then s1.0 && again 0 '' init0 s0.{0,1} s0=1.000000 DISCONTINUITY init1 s1.{0..3} s1=2.000000 s2.{0..3} s2=2.000000 s3.{0,1} s3=1.000000 ENDLIST
 }
 
-# encoder: 9 seconds of a test pattern, as docs/OPERATING.md has it.
+# encoder: prints 9 seconds of a test pattern, as in docs/OPERATING.md.
 encoder() {
     ffmpeg -v error -f lavfi -i testsrc2=size=320x180:rate=24 -t 9 -c:v libx264 -preset ultrafast -pix_fmt yuv420p -g 48 \
         -f mp4 -movflags +frag_keyframe+empty_moov+default_base_moof -frag_duration 500000 - </dev/null
 }
 
-# What an encoder writes comes to players byte for byte, and its parts and segments last as long as they are to.
+# What an encoder writes comes to players byte for byte, and its parts and segments have the wanted durations.
 encoder_is_served() {
     serve "$program" 'workers 4' "$cam" || return 1
     encoder | tee "$room/input" | pushes 0 '' "127.0.0.1:$publish_port" || return 1
@@ -366,13 +370,14 @@ encoder_is_served() {
         { cat "$room/playlist"; return 1; }
 }
 
-# both: 7 seconds of a test pattern and a tone, a fragment for each frame, as README.md has it.
+# both: prints 7 seconds of a test pattern and a tone, with a fragment for each frame, as in README.md.
 both() {
     ffmpeg -v error -f lavfi -i testsrc2=size=320x180:rate=25 -f lavfi -i sine=frequency=440 -t 7 -c:v libx264 -preset ultrafast -tune zerolatency -pix_fmt yuv420p -g 50 -c:a aac \
         -f mp4 -movflags +delay_moov+default_base_moof -frag_duration 1000 - </dev/null
 }
 
-# Sound and picture come to players, an encoder that is started anew goes on after a break, each segment begins with a key frame, and ffmpeg plays each frame of both.
+# Sound and picture come to players; after an encoder is started anew it goes on after a break; each segment begins with a key frame; and ffmpeg plays
+# each frame of both runs.
 both_are_served() {
     serve "$program" 'workers 4' "$cam" || return 1
     { both && both; } | tee "$room/input" | pushes 0 '' "127.0.0.1:$publish_port" && plays_input || return 1
@@ -413,7 +418,7 @@ try to_server 3 'no 4 TooLong' two "${cam/ part=1000000 / part=400000 }"
 try to_server 3 'no 14 UnknownChannel' one "${cam/ cam / other }"
 try to_server 3 'no 1 NoRendition' one "${cam/hi,lo/lo}"
 
-# A connection that is hung up before a message, at once or after some; in the midst of one, before its answer.
+# The origin hangs up before a message, at once or after some; in the middle of one; or before its answer.
 try hangs_up close/ok,ok,ok,ok 1
 try hangs_up ok,close/ok,ok,ok 1
 try hangs_up ok,close/ok,close/ok,ok 2

@@ -1,22 +1,22 @@
 #!/usr/bin/env python3
-"""What `llhls push` sends of an encoder's output, written a second time: tests/push.py compares the program with it.
+"""A second implementation of what `llhls push` sends of an encoder's output: tests/push.py compares the program with it.
 
-    elements(data)                     the units of the stream, read one by one; the fault that ends it, where one does
+    elements(data)                     the units of the stream, read one by one; the fault that ends it, if one does
     joined(elements, lengths, end)     the pieces: initialization sections, parts, breaks; and the fault
     sent(part)                         the bytes of a part as they are sent
 
-Numbers are natural numbers: `//` cuts, `minus` is 0 where it would be negative. It reads the whole stream at once, and recurses over its fragments, where the program takes a unit at a time.
+Numbers are natural numbers: `//` rounds down, `minus` is 0 if it would be negative. It reads the whole stream at once, and recurses over its fragments; the program takes a unit at a time.
 """
 from typing import NamedTuple, Optional
 
 LIMIT = 1048576          # the most bytes of an initialization section or a part
-SECOND = 1000000         # microseconds
+SECOND = 1000000         # in microseconds
 TOP = (1 << 64) - 1
 LAST = 253402300799999999    # the last microsecond of the year 9999, from 1970 on
 
 
 class Refused(Exception):
-    """Err fault"""
+    """What is raised in place of the result `Err fault`."""
 
     def __init__(self, fault):
         self.fault = fault
@@ -27,7 +27,7 @@ def minus(a, b):
 
 
 def number(count, data, place):
-    """the number of so many bytes at a place; BadBox where bytes of it are missing"""
+    """Returns the number in `count` bytes at a place; BadBox if bytes of it are missing."""
     if len(data) < place + count:
         raise Refused('BadBox')
     return int.from_bytes(data[place:place + count], 'big')
@@ -38,7 +38,7 @@ def number(count, data, place):
 
 class Box(NamedTuple):
     kind: bytes
-    head: int            # the bytes of its header: 8 or 16
+    head: int            # how many bytes its header has: 8 or 16
     data: bytes          # all of it, with its header
 
     @property
@@ -53,7 +53,7 @@ class Head(NamedTuple):
 
 
 def header_at(data, at):
-    """the header at a place: None where bytes of it are missing; BadBox where the size is less than the header's (0 too)"""
+    """Returns the header at a place, None if bytes of it are missing; BadBox if the size is less than the header's (0 too)."""
     if len(data) < at + 8:
         return None
     size, kind, head = number(4, data, at), data[at + 4:at + 8], 8
@@ -67,7 +67,7 @@ def header_at(data, at):
 
 
 def inside(content):
-    """the boxes of a box's content, where nothing but boxes may stand, and whether what is left is none"""
+    """Returns the boxes of a box's content, which has to be boxes alone, and whether something else is left."""
     at, found = 0, []
     while at < len(content):
         try:
@@ -82,7 +82,7 @@ def inside(content):
 
 
 def every(kind, content):
-    """the contents of the boxes of a type; BadBox where anything else than boxes stands there"""
+    """Returns the contents of the boxes of a type; BadBox if there is anything else than boxes."""
     found, broken = inside(content)
     if broken:
         raise Refused('BadBox')
@@ -90,7 +90,7 @@ def every(kind, content):
 
 
 def only(kind, content):
-    """the content of the only box of a type; that there are several is told before BadBox"""
+    """Returns the content of the only box of a type; Several comes before BadBox, and that before Missing."""
     found, broken = inside(content)
     these = [box.content for box in found if box.kind == kind]
     if len(these) > 1:
@@ -107,9 +107,9 @@ def only(kind, content):
 
 # ---- units: the boxes up to the end of the first `moov` or `mdat`
 
-class Open(NamedTuple):               # no unit's end is there
-    left: tuple                       # the whole boxes that are
-    torn: bool                        # whether bytes stand after them
+class Open(NamedTuple):               # the unit has no end yet
+    left: tuple                       # its whole boxes
+    torn: bool                        # whether bytes come after them
 
 
 class Closed(NamedTuple):
@@ -118,7 +118,7 @@ class Closed(NamedTuple):
 
 
 def unit_at(data, at):
-    """the unit that begins at a place. An `mfra` before its first box belongs to none, and counts nothing, be it whole or torn"""
+    """Returns the unit that begins at a place. An `mfra` before its first box belongs to no unit and doesn't count, whole or torn."""
     boxes, size = [], 0
     while at < len(data):
         h = header_at(data, at)
@@ -146,14 +146,14 @@ def bytes_of(boxes):
 
 class Track(NamedTuple):
     id: int
-    scale: int           # ticks of a second
+    scale: int           # ticks per second
     video: bool          # its handler is `vide`
-    duration: Optional[int]    # a sample's, and a sample's flags, where fragments tell none: the governing track's alone
+    duration: Optional[int]    # a sample's, and a sample's flags, if fragments don't give them: the governing track's alone
     flags: Optional[int]
 
 
 def timed_field(content):
-    """the field after a version, flags and two times, which have 32 bits in version 0 and 64 in version 1"""
+    """Returns the field after a version, flags and two times, which have 32 bits in version 0 and 64 in version 1."""
     version = number(4, content, 0) >> 24
     if version > 1:
         raise Refused('BadBox')
@@ -172,7 +172,7 @@ def track_in(trak):
 
 
 def with_defaults(moov, track):
-    """a track with the defaults that its movie has for it"""
+    """Returns a track with the defaults that its movie has for it."""
     for trex in every(b'trex', only(b'mvex', moov)):
         of_track, duration, flags = number(4, trex, 4), number(4, trex, 12), number(4, trex, 20)
         if of_track == track.id:
@@ -190,7 +190,7 @@ def tracks_in(moov):
 
 
 def track_of(tracks, number_of):
-    """the first track of this ID, or None"""
+    """Returns the first track of this ID, or None."""
     for track in tracks:
         if track.id == number_of:
             return track
@@ -198,7 +198,7 @@ def track_of(tracks, number_of):
 
 
 def governing_of(tracks):
-    """the first `vide` track, else the first"""
+    """Returns the first `vide` track, or else the first."""
     for track in tracks:
         if track.video:
             return track
@@ -216,7 +216,7 @@ def room(flags, flag, size):
 
 
 def time_in(traf):
-    """the decode time of a `tfdt`, or None without one"""
+    """Returns the decode time of a `tfdt`, or None without one."""
     tfdts = every(b'tfdt', traf)
     if len(tfdts) > 1:
         raise Refused('Several tfdt')
@@ -229,7 +229,7 @@ def time_in(traf):
 
 
 def samples_in(track, traf):
-    """the ticks of all samples, and the flags of the first"""
+    """Returns the ticks of all samples, and the flags of the first."""
     tfhd = only(b'tfhd', traf)
     fl = number(4, tfhd, 0)
     at = 8 + room(fl, 0x01, 8) + room(fl, 0x02, 4)
@@ -318,7 +318,7 @@ def fragment_of(movie, data, size, moof):
 
 
 def element_of(movie, boxes):
-    """what a unit is, after this movie, or None before any"""
+    """Returns what a unit is, after `movie`, which is None before the first movie."""
     data, last = bytes_of(boxes), boxes[-1]
     moofs = [box for box in boxes if box.kind == b'moof']
     try:
@@ -339,14 +339,14 @@ def element_of(movie, boxes):
 
 
 def ending(left):
-    """what is wrong where the input ends and these boxes are left: a `moof` without its `mdat`, or a box that is cut"""
+    """Returns what is wrong if the input ends and these boxes are left: a `moof` without its `mdat`, or a box that is cut."""
     if any(box.kind == b'moof' for box in left.left):
         return [Fault('Cut' if left.torn else 'Missing mdat')]
     return [Fault('Cut')] if left.torn else []
 
 
 def elements(data):
-    """all elements of a stream, of which the last may be a fault. (A loop over `unit_at` and `element_of`: the movie is all that is kept.)"""
+    """Returns all elements of a stream, of which the last may be a fault. It loops over `unit_at` and `element_of`, and keeps the movie alone."""
     movie, at, found = None, 0, []
     while True:
         try:
@@ -371,14 +371,14 @@ class Lengths(NamedTuple):
     part: int
     segment: int
     most: int
-    ahead: bool = True                # whether a part waits for the fragment after it; else each fragment is a part
+    ahead: bool = True                # whether a part waits for the fragment after it; otherwise each fragment is a part
 
 
 class Shift(NamedTuple):              # how the times of a run are moved
     tracks: tuple                     # (ID, scale) of each track
     scale: int                        # of the governing one
-    base: int                         # its tick where the run begins
-    end: int                          # where the rendition ends then, in microseconds
+    base: int                         # its tick at which the run begins
+    end: int                          # where the rendition ends at that tick, in microseconds
 
 
 class Init(NamedTuple):
@@ -407,7 +407,7 @@ class Start(NamedTuple):              # a movie begins
 
 class Group(NamedTuple):              # a governing fragment with those that go with it
     heard: Heard
-    time: int                         # its decode time; without `tfdt` where the one before ended
+    time: int                         # its decode time; without `tfdt`, where the one before it ended
     units: tuple
     size: int
 
@@ -428,7 +428,7 @@ class Run(NamedTuple):
     base: int
     position: int
     start: int                        # of the part under way, in microseconds of the run
-    units: tuple                      # its units; none without one
+    units: tuple                      # its units; empty if no part is under way
     size: int
     sync: bool                        # of its first governing fragment
     segment: int                      # where its segment begins
@@ -473,7 +473,7 @@ def ends_segment(lengths, so_far, lasts, sync):
 
 
 def cut_before(lengths, run, begin, lasts, group):
-    """'joins', 'parts' or 'segments'"""
+    """Returns whether the group joins the part under way, or begins a new part or segment: 'joins', 'parts' or 'segments'."""
     if not (run.size > 0 and (run.start < begin or LIMIT < run.size + group.size)):
         return 'joins'
     if ends_segment(lengths, minus(begin, run.segment), lasts, group.heard.sync):
@@ -512,7 +512,7 @@ def joined_to(cut, run, begin, lasts, group):
 
 
 def judged(lengths, movie, run, group, next):
-    """what a group at the run's position comes to, of which it is known what comes after it, and the run after it"""
+    """Returns the pieces that a group at the run's position completes, once `next`, which comes after it, is known, and the run after it."""
     scale = movie.governing.scale
     said = said_to(scale, run, group.heard.ticks, next)
     begin = at_tick(scale, run, run.position)
@@ -534,14 +534,14 @@ def judged(lengths, movie, run, group, next):
 
 
 def jumps(lengths, scale, run, ticks, next):
-    """whether a run ends between a fragment and the next one of its movie"""
+    """Returns whether a run ends between a fragment and the next one of its movie."""
     return isinstance(next, Back) or isinstance(next, At) and said_to(scale, run, ticks, next) > lengths.part
 
 
 # ---- which fragments of other tracks go with which
 
 def nearer(scale, position, tick, element):
-    """whether what came between two fragments belongs to the second, which begins at `tick`; what has no time doesn't"""
+    """Returns whether an element between two fragments belongs to the second, which begins at `tick`; an element without a time doesn't."""
     when = element.when if isinstance(element, Fragment) else None
     if when is None:
         return False
@@ -550,7 +550,7 @@ def nearer(scale, position, tick, element):
 
 
 def shared(scale, position, tick, between):
-    """those that stay with the first, and from the first one that is nearer to the second on those that lead it"""
+    """Returns the elements that stay with the first fragment, and, from the first that is nearer to the second, those that lead that one."""
     for n, element in enumerate(between):
         if nearer(scale, position, tick, element):
             return between[:n], between[n:]
@@ -558,7 +558,7 @@ def shared(scale, position, tick, between):
 
 
 def time_of(run, before, heard):
-    """a fragment's decode time: as it is told, or where the one before it ends by its samples, or 0"""
+    """Returns a fragment's decode time: its own, or where the one before it ends by its samples, or 0."""
     if heard.time is not None:
         return heard.time
     return run.position + before.ticks if before is not None else 0
@@ -576,7 +576,7 @@ def sizes(units):
 # ---- the whole list
 
 def movies_of(found):
-    """(movie, its elements) for each movie, and the fault"""
+    """Returns (movie, its elements) for each movie, and the fault."""
     movies, fault = [], None
     for element in found:
         if isinstance(element, Movie):
@@ -600,7 +600,7 @@ def until_governing(found):
 
 
 def fitting(size, units):
-    """as many of these, from the front, as fit with so many bytes"""
+    """Returns the longest prefix of `units` that fits with `size` bytes, and whether some are left."""
     for n, unit in enumerate(units):
         size += unit.size
         if size > LIMIT:
@@ -609,7 +609,7 @@ def fitting(size, units):
 
 
 def joined_movie(lengths, movie, end, found):
-    """(pieces, the rendition's end, fault) of a movie's elements"""
+    """Returns (pieces, the rendition's end, fault) of a movie's elements."""
     if not lengths.ahead:
         return paced_movie(lengths, movie, end, found)
     lead, rest = until_governing(found)
@@ -626,14 +626,14 @@ def joined_movie(lengths, movie, end, found):
 
 
 def refused(lengths, movie, begins, lead, fragment):
-    """why a fragment that begins a run or doesn't, led by these, can't be published"""
+    """Returns why a fragment, led by `lead`, can't be published, or None; `begins` says whether it begins a run."""
     if begins and lengths.part < fragment.heard.ticks * SECOND // movie.governing.scale:
         return 'TooLong'
     return 'TooLarge' if LIMIT < sizes(lead) + fragment.size else None
 
 
 def said_of(lengths, movie, run, lead, time, found):
-    """the same, where the first is a governing fragment at the run's position, led by these. (Recursion; a loop for Python's sake.)"""
+    """Returns the same as `joined_movie` for elements that begin with a governing fragment at the run's position, led by `lead`. A recursion, written as a loop for Python's sake."""
     scale, pieces = movie.governing.scale, ()
     while True:
         fragment, (between, rest) = found[0], until_governing(found[1:])
@@ -656,18 +656,18 @@ def said_of(lengths, movie, run, lead, time, found):
 
 
 def ended_at(step):
-    """where the rendition ends after the last part of a run"""
+    """Returns where the rendition ends after the last part of a run."""
     last = step.pieces[-1] if step.pieces else None
     return step.run.end + step.run.start + last.duration if last is not None else step.run.end
 
 
-# ---- where each fragment is a part
+# ---- if each fragment is a part
 
 class Pace(NamedTuple):               # a run of parts
     base: int                         # its first tick
-    place: int                        # the tick at which the samples end that came
+    place: int                        # the tick at which its samples so far end
     lasted: int                       # how long its parts are, in microseconds
-    segment: int                      # how long those of the open segment are; 0: none is open
+    segment: int                      # how long those of the open segment are, or 0 if none is open
     end: int                          # where the rendition ended as the run began
     origin: int
 
@@ -685,7 +685,7 @@ def paced_end(pace):
 
 
 def to_fragment(lengths, movie, pace, heard):
-    """what is said before a fragment, and the run that it goes on with or begins: times that are told count where they are off by more than a part"""
+    """Returns the pieces before a fragment, and the run that it continues or begins: its own time counts only if that is off by more than a part."""
     away = 0 if heard.time is None else heard.time - pace.place
     if abs(away) * SECOND <= lengths.part * movie.governing.scale:
         return (), pace
@@ -696,7 +696,7 @@ def to_fragment(lengths, movie, pace, heard):
 
 
 def paced(lengths, movie, pace, units):
-    """the part of a fragment at the run's place, the last of these units, and the run after it"""
+    """Returns the part of a fragment at the run's place, the last of `units`, and the run after it."""
     heard, scale = units[-1].heard, movie.governing.scale
     place = pace.place + heard.ticks
     lasts = max(1, minus(minus(place, pace.base) * SECOND // scale, pace.lasted))
@@ -711,7 +711,7 @@ def paced(lengths, movie, pace, units):
 
 
 def paced_movie(lengths, movie, end, found):
-    """(pieces, the rendition's end, fault) of a movie's elements. What is left before no fragment is left out"""
+    """Returns (pieces, the rendition's end, fault) of a movie's elements. Elements that no governing fragment follows are left out."""
     pieces, lead, pace, fault = (), (), None, None
     try:
         for element in found:
@@ -729,7 +729,7 @@ def paced_movie(lengths, movie, end, found):
 
 
 def joined(found, lengths, end=0):
-    """the pieces of a stream's elements for a rendition that ends there, and the fault that ends it"""
+    """Returns the pieces of a stream's elements for a rendition that ends at `end`, and the fault that ends them."""
     movies, fault = movies_of(found)
     pieces = ()
     for movie, these in movies:
@@ -744,7 +744,7 @@ def joined(found, lengths, end=0):
 # 3. Moved
 
 def moved_time(shift, scale, time):
-    """a time of a track of this scale; the greatest of 64 bits stands for any above it"""
+    """Returns a time of a track of this scale, moved; the greatest of 64 bits stands for any above it."""
     return min(TOP, minus(time + shift.end * scale // SECOND, shift.base * scale // shift.scale))
 
 
@@ -756,7 +756,7 @@ def scale_of(shift, track):
 
 
 def boxed(box, content):
-    """the box with this content: its size in as many bytes as it was told in"""
+    """Returns the box with this content, its size in as many bytes as before."""
     size = box.head + len(content)
     if box.head == 16:
         return box.data[:8] + size.to_bytes(8, 'big') + content
@@ -764,7 +764,7 @@ def boxed(box, content):
 
 
 def with_time(content, place, time):
-    """a content whose time stands there, of 32 bits in version 0 and else of 64: the same with this time, with 64 bits where it needs them"""
+    """Returns a content with another time at `place`, which has 32 bits in version 0 and otherwise 64; it gets 64 bits if it needs them."""
     if content[0] == 0 and time < 1 << 32:
         return content[:place] + time.to_bytes(4, 'big') + content[place + 4:]
     if content[0] == 0:
@@ -777,7 +777,7 @@ def has_time(content, place):
 
 
 def moved_within(content, scale, place, shift):
-    """a content with a time at a place, moved; as it is where it has none"""
+    """Returns a content with the time at `place` moved, or as it is if it has none."""
     if scale is None or not has_time(content, place):
         return content
     time = int.from_bytes(content[place:place + (8 if content[0] else 4)], 'big')
@@ -785,7 +785,7 @@ def moved_within(content, scale, place, shift):
 
 
 def moved_tfdts(traf, shift):
-    """a `traf`'s content with its time moved"""
+    """Returns a `traf`'s content with its time moved."""
     boxes = inside(traf)[0]
     ids = [number(4, box.content, 4) for box in boxes if box.kind == b'tfhd' and len(box.content) >= 8]
     scale = scale_of(shift, ids[0]) if ids else None
@@ -793,7 +793,7 @@ def moved_tfdts(traf, shift):
 
 
 def offset_by(content, more):
-    """a `trun` whose samples begin so many bytes later than it tells"""
+    """Returns the content of a `trun` whose samples begin `more` bytes later than it says."""
     if more == 0 or len(content) < 12 or not has(int.from_bytes(content[:4], 'big'), 0x01):
         return content
     offset = (int.from_bytes(content[8:12], 'big') + more) % (1 << 32)
@@ -801,7 +801,7 @@ def offset_by(content, more):
 
 
 def counts_from_moof(traf, first):
-    """whether the offsets of a `traf` are relative to the `moof`: not to a told place, nor to where the samples of the `traf` before end"""
+    """Returns whether the offsets of a `traf` are relative to the `moof`: not to a given place, nor to where the samples of the `traf` before end."""
     for box in inside(traf)[0]:
         if box.kind == b'tfhd' and len(box.content) >= 4:
             flags = int.from_bytes(box.content[:4], 'big')
@@ -841,7 +841,7 @@ def moved_box(box, shift):
 
 
 def moved(data, shift):
-    """the bytes of whole boxes as they are sent: two kinds, whose numbers would be wrong, are left out"""
+    """Returns the bytes of whole boxes as they are sent. Two kinds, whose numbers would be wrong, are left out."""
     return b''.join(moved_box(box, shift) for box in inside(data)[0] if box.kind not in (b'sidx', b'mfra'))
 
 
@@ -853,7 +853,7 @@ def sent(part):
 # 4. Messages
 
 def message(place, word, *words, data=None):
-    """a line, and the bytes and LF after it where it has any"""
+    """Returns a line, and the bytes and LF after it if it has bytes."""
     channel, rendition = place
     line = ' '.join([channel, word, rendition, *words] + ([str(len(data))] if data is not None else []))
     return line.encode() + b'\n' + (data + b'\n' if data is not None else b'')
@@ -871,7 +871,7 @@ def rounded_to_millis(micros):
 
 
 def messages(data, lengths, place=('cam', 'hi'), ends=False, stands=Standing(), now=0):
-    """what is sent of an encoder's output where the rendition stands there and the clock tells this, a message each; and the fault that ends it"""
+    """Returns what is sent of an encoder's output if the rendition stands at `stands` and the clock shows `now`, one message each, and the fault that ends it."""
     pieces, fault = joined(elements(data), lengths, stands.end)
     sends, begun, index, end = [], False, stands.index, stands.end
     clock = origin = stands.time * 1000

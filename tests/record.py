@@ -1,9 +1,9 @@
 """What tests/record.sh runs.
 
-record.py load PLAYERS PUBLISHERS FOLDER: publishes on the channels cam and two, by a connection each, while players ask on connections of their own;
-writes the item lines that were accepted to FOLDER/published.cam and FOLDER/published.two.
+record.py load PLAYERS PUBLISHERS FOLDER: publishes on the channels cam and two, by a connection each, while players ask on connections of their own.
+Writes the item lines that were accepted to FOLDER/published.cam and FOLDER/published.two.
 
-record.py places PROGRAM FILE SEED COUNT: changes one byte of a record at so many places, and has each checked. The last line is `N passed, M failed`.
+record.py places PROGRAM FILE SEED COUNT: changes one byte of a record at COUNT places, one after another, and has each record checked. The last line is `N passed, M failed`.
 """
 import http.client
 import random
@@ -23,7 +23,7 @@ SECONDS = 30  # for any answer
 
 
 class Channel:
-    """How many parts a channel has, and whether its publisher is to go on."""
+    """How many parts a channel has, and whether its publisher goes on."""
 
     def __init__(self, name):
         self.name = name
@@ -31,7 +31,7 @@ class Channel:
 
 
 def part(number):
-    """The item line of a channel's part of this number, from 0."""
+    """Returns the item line of a channel's part of this number, from 0."""
     kind = {0: "i", SEGMENT - 1: "f"}.get(number % SEGMENT, "-")
     return f"part hi 1000000 {kind}"
 
@@ -53,7 +53,7 @@ def publish(port, channel, folder, asking):
 
 
 def wanted(channel, draw):
-    """A target, and the status of its answer."""
+    """Returns a target, and the status of its answer."""
     at = f"/{channel.name}/hi/live.m3u8"
     segment = channel.parts // SEGMENT
     return draw.choice([
@@ -87,7 +87,7 @@ def ask(port, channels, seed):
 
 
 def load(players_port, publishers_port, folder):
-    """Runs publishers and players at once; what goes wrong in any of them ends in status 1."""
+    """Runs publishers and players at once. A fault in any of them ends it with status 1."""
     wrong = []
     threading.excepthook = lambda failed: wrong.append(failed.exc_value)
     channels = [Channel(name) for name in CHANNELS]
@@ -103,13 +103,13 @@ def load(players_port, publishers_port, folder):
 
 
 def check(program, file):
-    """What `check` says of a file: its status, standard output and standard error."""
+    """Returns the status, standard output and standard error of `check` for a file."""
     done = subprocess.run([program, "check", file], stdin=subprocess.DEVNULL, capture_output=True, timeout=SECONDS)
     return done.returncode, done.stdout.decode(), done.stderr.decode()
 
 
 def places(program, file, seed, count):
-    """Each change is found, or changes nothing that the record tells."""
+    """Tests that each change is found, or changes nothing that the record means."""
     with open(file, "rb") as record:
         text = record.read()
     right = check(program, file)

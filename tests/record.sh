@@ -1,16 +1,16 @@
 #!/usr/bin/env bash
-# record.sh PROGRAM: `llhls serve` with a line `record` in its settings, on real sockets. Two channels are published, asked and waited for at once; then
-# `llhls check` is to find their records right, and each with the items that were published. The server is started again with the same files, which have a
-# chain more then. A byte of one is changed at a thousand places: `check` is to find it, where the byte tells anything. Then come files that can't be opened
-# or written. The last line is `N passed, M failed`.
+# record.sh PROGRAM: tests `llhls serve` with a line `record` in its settings, on real sockets. Two channels are published, asked and waited for at
+# once; then `llhls check` has to find their records right, and each has the items that were published. The server is started again with the same
+# files, each of which has a chain more then. A byte of one is changed at a thousand places: `check` has to find that, if the byte means anything.
+# Then come files that can't be opened or written. The last line is `N passed, M failed`.
 . "$(dirname "${BASH_SOURCE[0]}")/server.sh" || exit 2
 take_program "$1"
-# Within so many seconds, and some to spare, the server hands out each record.
+# Within how many seconds the server hands out each record, with some to spare.
 handed_out=20
 
 part='part hi 1000000 -'
 
-# start PATH NAME..: starts the server with records at this path and channels of these names.
+# start PATH NAME..: starts the server with records at PATH and channels of these names.
 start() {
     local path=$1 name lines=()
     shift
@@ -20,12 +20,12 @@ start() {
     serve "$program" 'workers 256' "record $path" "${lines[@]}"
 }
 
-# items FILE: the item lines of a record, in which the number of its bytes stands after a part.
+# items FILE: prints the item lines of a record, without the number of bytes that a part's line ends with.
 items() {
     sed -n -e 's/^P \(part .*\) [0-9]*$/\1/p;t' -e 's/^P //p' "$1"
 }
 
-# wait_for FILE COUNT: waits until a record has so many items.
+# wait_for FILE COUNT: waits until a record has COUNT items.
 wait_for() {
     local tries
     for ((tries = 0; tries < handed_out * 10; tries++)); do
@@ -38,14 +38,14 @@ wait_for() {
     return 1
 }
 
-# is_right FILE: `check` finds as many entries in a record as it has.
+# is_right FILE: tests that `check` finds as many entries in a record as it has.
 is_right() {
     local said
     said=$("$program" check "$1" 2>&1)
     [ "$said" = "ok $(grep -c '^[PACGX] ' "$1")" ] || { echo "${1##*/}: $said"; return 1; }
 }
 
-# told NAME COUNT: so many lines of standard error tell of this channel's record.
+# told NAME COUNT: tests that COUNT lines of standard error name this channel's record.
 told() {
     local count
     count=$(grep -c "^llhls: record: $1: ." "$log")
@@ -62,7 +62,7 @@ publishes_and_asks() {
     told cam 0 && told two 0
 }
 
-# has_all NAME: the record of a channel is right, has the items that were published, in order, and requests of each kind.
+# has_all NAME: tests that the record of a channel is right, and has the items that were published, in order, and requests of each kind.
 has_all() {
     local record=$room/kept.$1
     is_right "$record" || return 1
@@ -72,7 +72,7 @@ has_all() {
     [ "$(grep -c '^G .* text ' "$record")" -ge 100 ] || { echo "too few that have waited"; return 1; }
 }
 
-# The server is started again with the same files: each has a chain more then, that begins with nothing.
+# Starts the server again with the same files. Each has a chain more then, which begins with nothing.
 goes_on_after_a_restart() {
     local name
     start "$room/kept" cam two || return 1
@@ -85,8 +85,8 @@ goes_on_after_a_restart() {
     done
 }
 
-# The record of `open` isn't there and can't be made, that of `full` can't be written; that of `kept` is right. All three are served. Each fault is told
-# once, also where a later chunk would find it again.
+# The record of `open` isn't there and can't be made, that of `full` can't be written, and that of `kept` is right. All three channels are served.
+# Each fault is reported once, also if a later chunk would meet it again.
 files_that_fail() {
     local name number
     ln -s none/there "$room/bad.open" && ln -s /dev/full "$room/bad.full" || return 1
@@ -105,7 +105,7 @@ files_that_fail() {
     told kept 0 && is_right "$room/bad.kept"
 }
 
-# How many bytes an item has stands in the record.
+# The record has the number of bytes of each item.
 tells_lengths() {
     local record=$room/lengths.cam items
     start "$room/lengths" cam || return 1

@@ -1,9 +1,9 @@
-/* Loaded into ll_refused before its own libraries, this refuses allocations as that program orders. The program asks for impossibly much memory: 2^62 bytes and
-   as many more as a number tells. Those bytes are never found, but for the last order:
+/* Loaded into ll_refused before its own libraries, this refuses allocations as that program orders. An order is an allocation of 2^62 bytes and a number more,
+   which is more than there is. It fails, but for the last of these:
 
    - N, below 2^40: the Nth allocation from here on is refused, counting those of malloc, calloc and realloc together;
    - 2^40: every allocation from here on is refused;
-   - 2^41: none is refused from here on. One byte is found in place of so many if an allocation was refused since the order before, and else none. */
+   - 2^41: none is refused from here on. This allocation returns one byte if an allocation was refused since the order before, and otherwise fails. */
 #include <errno.h>
 #include <stddef.h>
 
@@ -15,12 +15,12 @@ static const size_t ORDERS = (size_t)1 << 62;
 static const size_t EVERY = (size_t)1 << 40;
 static const size_t NONE = (size_t)1 << 41;
 
-/* How many allocations come until the refused one, with it, 0 where none is to be refused; whether every one is; whether one was. */
+/* How many allocations there are up to and with the refused one, or 0 if none is to be refused; whether every one is; whether one was. */
 static size_t left;
 static int every;
 static int met;
 
-/* Takes a size for an order, if it is one, and then answers it. */
+/* Carries out a size as an order, if it is one. Returns whether it is, and sets what the allocation returns. */
 static int is_order(size_t size, void **answer)
 {
     if (size < ORDERS)

@@ -1,6 +1,7 @@
 #!/usr/bin/env bash
-# refused_calls.sh PROGRAM: runs the proved ll_refused under the library that refuses memory as it orders, and compares what it tells of each call with
-# tests/refused_calls.stdout: how many refusals the call met, how often it answered Memory, and `ok`. The last line, `N passed, M failed`, counts calls.
+# refused_calls.sh PROGRAM: runs the proved ll_refused under the library that refuses memory as it orders, and compares its line for each call with
+# tests/refused_calls.stdout: how many refusals the call met, how often it returned Memory, and `ok`. The last line, `N passed, M failed`, counts
+# calls.
 . "$(dirname "${BASH_SOURCE[0]}")/common.sh" || exit 2
 take_program "$1"
 compile "$here/refused_calls.c" -shared -fPIC

@@ -1,5 +1,5 @@
 /* Loaded into a program before its own libraries, this refuses one allocation: call number REFUSE of malloc, calloc and realloc since the program's start, counted
-   together. Where that call comes, the file that REFUSED names is made. At the program's end the file that COUNTED names gets the number of calls. */
+   together. At that call it makes the file that REFUSED names. At the program's end it writes the number of calls to the file that COUNTED names. */
 #include <errno.h>
 #include <fcntl.h>
 #include <stddef.h>
@@ -11,7 +11,7 @@ extern void *__libc_malloc(size_t size);
 extern void *__libc_calloc(size_t count, size_t size);
 extern void *__libc_realloc(void *at, size_t size);
 
-/* The number of the refused call, 0 before the start and where none is refused; and how many came. */
+/* The number of the refused call, 0 before the start and if none is refused; and how many calls there were. */
 static unsigned long refused;
 static unsigned long count;
 static const char *mark;

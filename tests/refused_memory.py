@@ -2,14 +2,14 @@
 
 A run whose Nth allocation is refused ends in one of these ways:
 
-- as the row does, where what was refused isn't needed for the answer, as for a list that is refused anyway;
+- as the row does, if what was refused isn't needed for the answer, as for a list that is refused anyway;
 - with status 4, `llhls: Memory` and a prefix of the row's output, which is empty for `upgrade` and `explain`;
 - with one thing refused: an item is answered `no 12 Memory`, a `get` line `reply <id> 503 Memory`, a request of a connection by the response Memory (503), and
-  all else is as if it had not been sent. What that comes to the program says itself: of the same script in which that line or request names a channel that isn't
-  there, with the answer's text exchanged;
-- with one connection shut after some of its answers, for which no memory was found; all else is as the row has it.
+  all else is as if it had not been sent. The program itself says what that results in: the output of the same script in which that line or request names a channel
+  that isn't there, with the answer's text replaced;
+- with one connection shut after some of its answers, because it was out of memory; all else is as the row has it.
 
-Where an item or a `get` line needs memory beside the lines that are read and written, one run at least must have it answered so.
+If an item or a `get` line needs memory beside the lines that are read and written, at least one run has to refuse it so.
 """
 import concurrent.futures
 import os
@@ -19,12 +19,12 @@ import sys
 import tempfile
 
 MOST = 100_000
-SHOWN = 3  # faults of a row
+SHOWN = 3  # how many faults of a row are shown
 UNKNOWN = b"zz"  # no row declares a channel of this name
 
 
 class Run:
-    """What a run of the program came to: whether it met the refusal, and how many allocations it made."""
+    """The result of a run of the program: also whether it met the refusal, and how many allocations it made."""
 
     def __init__(self, status, stdout, stderr, met, count):
         self.status, self.stdout, self.stderr, self.met, self.count = status, stdout, stderr, met, count
@@ -46,7 +46,7 @@ class Runner:
 
 
 def things(text):
-    """What a script writes, one thing after another: (kind, of whom, bytes)."""
+    """Returns what a script writes, one thing after another: (kind, of whom, bytes)."""
     found, at = [], 0
     while at < len(text):
         end = text.find(b"\n", at) + 1 or len(text)
@@ -54,7 +54,7 @@ def things(text):
         words = line.split()
         if len(words) == 3 and words[0] == b"sent":
             end += int(words[2])
-            # (an LF that isn't counted follows media)
+            # An LF that isn't counted follows media.
             if b"\r\nContent-Type: video/mp4\r\n" in text[at:end]:
                 end += 1
         elif len(words) == 4 and words[0] == b"reply" and words[2] == b"200":
@@ -65,7 +65,7 @@ def things(text):
 
 
 def memory_response(text):
-    """A response 404 NotFound on a connection, as the response Memory; None for any other."""
+    """Returns the response Memory in place of a response 404 NotFound on a connection, or None for any other response."""
     head = text.find(b"\n") + 1
     number, response = text.split()[1], text[head:]
     if not response.startswith(b"HTTP/1.1 404 ") or not response.endswith(b"\r\n\r\nNotFound\n"):
@@ -76,7 +76,7 @@ def memory_response(text):
 
 
 def is_muted(row, run):
-    """Whether a run differs from its row by one connection that shuts after some of its answers."""
+    """Returns whether a run differs from its row by one connection that shuts after some of its answers."""
     for number in {who for kind, who, _ in run if kind == b"shut"}:
         mine = lambda it: it[0] in (b"sent", b"shut") and it[1] == number
         sent = [text for kind, _, text in filter(mine, run) if kind == b"sent"]
@@ -88,7 +88,7 @@ def is_muted(row, run):
 
 
 class Script:
-    """The lines of a script, and what comes of it where one thing is refused."""
+    """The lines of a script, and its output if one thing is refused."""
 
     def __init__(self, runner, words, text, output):
         self.runner, self.words, self.lines = runner, words, text.split(b"\n")
@@ -96,15 +96,15 @@ class Script:
         self.requests = {}  # of connections, by number and place
 
     def text(self, count, last=None):
-        """So many lines, and another one after them."""
+        """Returns the first `count` lines, and another line after them."""
         return b"".join(line + b"\n" for line in self.lines[:count] + ([last] if last is not None else []))
 
     def aimed(self, at, line):
-        """The script with another line at a place."""
+        """Returns the script with another line at a place."""
         return b"\n".join(self.lines[:at] + [line] + self.lines[at + 1 :])
 
     def refused_lines(self):
-        """For each item and `get` line: the line's number, the output with it refused, and whether one run must come to it."""
+        """Returns for each item and `get` line its number, the output with it refused, and whether one run has to have that output."""
         for at, line in enumerate(self.lines):
             item = re.fullmatch(rb"pub [^ ]+( .*)", line)
             get = re.fullmatch(rb"get ([0-9]+) (https?://[^/ ]+)?/[^/ ]+(/.*)", line)
@@ -125,17 +125,17 @@ class Script:
             yield at + 1, output, self.needs_memory(at, other, front, bool(item))
 
     def needs_memory(self, at, other, front, is_item):
-        """Whether a line needs memory beside what the line itself and its answer need: more than one for a channel that isn't there, of which the same is known."""
+        """Returns whether a line needs memory beside what the line itself and its answer need: more than the same line for a channel that isn't there."""
         mine = self.runner.run(self.words, self.text(at + 1))
         theirs = self.runner.run(self.words, self.text(at, other))
         answer = mine.stdout[len(front.stdout) :]
         if is_item:
             return bool(re.fullmatch(rb"ok [0-9]+\n", answer)) and mine.count > theirs.count
-        # (a request that waits has no answer yet)
+        # A request that waits has no answer yet.
         return answer == b"" and mine.count >= theirs.count
 
     def bytes_of(self, number):
-        """The bytes of a connection: of each the line that brings it."""
+        """Returns for each byte of a connection the line that it comes with."""
         found = []
         for at, line in enumerate(self.lines):
             said = re.fullmatch(rb"bytes ([0-9]+) ([0-9a-f]+)\r?", line)
@@ -144,7 +144,7 @@ class Script:
         return found
 
     def request_refused(self, number, place):
-        """The output where this request of a connection, counted from 0, is refused; None where it names no channel."""
+        """Returns the output if request `place` of a connection, counted from 0, is refused, or None if it names no channel."""
         key = (number, place)
         if key not in self.requests:
             self.requests[key] = self.make_refused(number, place)
@@ -174,7 +174,7 @@ class Script:
         return b"".join(text if at != mine[place] else response for at, (_, _, text) in enumerate(run))
 
     def is_request_refused(self, output):
-        """Whether an output is that of the script with the request refused at which it differs first."""
+        """Returns whether an output is that of the script with the request refused at which it first differs."""
         mine = things(output)
         for at, (kind, who, text) in enumerate(mine):
             if at >= len(self.things) or self.things[at][2] != text:
@@ -223,7 +223,7 @@ class Row:
         return run.status == 4 and run.stderr == b"llhls: Memory\n" and (not run.stdout if self.is_whole else self.output.startswith(run.stdout))
 
     def sweep(self):
-        """Tries each N."""
+        """Tries each N, until a run meets no refusal."""
         script = Script(self.runner, self.words, self.text, self.output)
         variants = list(script.refused_lines()) if self.is_script else []
         met = set()
@@ -256,7 +256,7 @@ class Row:
 
 
 def names_of(tests, rows):
-    """The names of all rows."""
+    """Returns the names of all rows."""
     found = sorted(it[: -len(".stdout")] for it in os.listdir(rows) if it.endswith(".stdout"))
     found += [f"apply/{it}" for it in sorted(os.listdir(f"{tests}/apply"))]
     return found + [f"{kind}/{it[:-len('.stdout')]}" for kind in ("check", "upgrade", "explain") for it in sorted(os.listdir(f"{tests}/{kind}")) if it.endswith(".stdout")]
@@ -269,7 +269,7 @@ def main(program, library, tests, rows, names):
     failed = 0
     with concurrent.futures.ThreadPoolExecutor(os.cpu_count()) as pool:
         for row in pool.map(Row.sweep, made):
-            # (a program that is wrong at each would fill the screen)
+            # A program that is wrong at each would fill the screen.
             for fault in row.faults[:SHOWN]:
                 print(f"FAILED {row.name}: {fault}")
             failed += bool(row.faults)

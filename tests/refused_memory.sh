@@ -1,14 +1,15 @@
 #!/usr/bin/env bash
-# refused_memory.sh [ROW..]: first, where no row is named, tries single calls, as tests/refused_calls.sh does. Then, for each row, refuses the Nth allocation of the
-# program, for N from 1 until a run meets no refusal. tests/refused_memory.py says how such a run may end. A row of tests/apply is named apply/NAME, one of
-# tests/check check/NAME, one of tests/upgrade upgrade/NAME, one of tests/explain explain/NAME. Where the texts of a row of tests/apply have a fault, Memory comes only of the program's arguments and of reading the files: no run ends
-# in it after one that ended in the fault. It tells how many N were tried, and how the runs ended. The last line, `N passed, M failed`, counts calls and rows.
+# refused_memory.sh [ROW..]: first, if no row is named, tries single calls, as tests/refused_calls.sh does. Then, for each row, refuses the Nth
+# allocation of the program, for N from 1 until a run meets no refusal; tests/refused_memory.py says how such a run is allowed to end. A row of
+# tests/apply is named apply/NAME, one of tests/check check/NAME, one of tests/upgrade upgrade/NAME, one of tests/explain explain/NAME. If the texts
+# of a row of tests/apply have a fault, Memory comes only of the program's arguments and of reading the files: no run ends in Memory after one that
+# ended in the fault. It prints how many N were tried, and how the runs ended. The last line, `N passed, M failed`, counts calls and rows.
 . "$(dirname "${BASH_SOURCE[0]}")/common.sh" || exit 2
 program=$("$here/program.sh") || exit 2
 compile "$here/refused_memory.c" -shared -fPIC
 "$here/gather_rows.sh" "$room/rows" || exit 2
 
-# show WORD..: runs a command, shows what it says but its last line, and adds the numbers of that.
+# show WORD..: runs a command, shows its output but for the last line, and adds the numbers of that.
 show() {
     "$@" | tee "$log" | sed -u '$d'
     add "${PIPESTATUS[0]}" "$log" "$1"

@@ -1,13 +1,15 @@
 #!/usr/bin/env bash
-# rows.sh PROGRAM [NAME..]: runs each row on a built program, and compares what it writes and how it ends. Then come other uses of the program, and devices that fail.
-# Where rows are named, only these run: one of tests/rows, of tests/connections or of long lines by its name, one of tests/apply by apply/NAME, one of tests/check by
-# check/NAME, one of tests/upgrade by upgrade/NAME, one of tests/explain by explain/NAME; a name that no row has is a failure. The last line is `N passed, M failed`.
+# rows.sh PROGRAM [NAME..]: runs each row on a built program, and compares what it writes and how it ends. Then come other uses of the program, and
+# devices that fail. If rows are named, only these run: one of tests/rows, of tests/connections or of long lines by its name, one of tests/apply by
+# apply/NAME, one of tests/check by check/NAME, one of tests/upgrade by upgrade/NAME, one of tests/explain by explain/NAME; a name that no row has is
+# a failure. The last line is `N passed, M failed`.
 . "$(dirname "${BASH_SOURCE[0]}")/common.sh" || exit 2
 take_program "$1"
 "$here/gather_rows.sh" "$room/rows" || exit 2
 
-# row NAME: a row of tests/apply is a folder: two playlists, and what comes of them; one of tests/check a record, and beside it the line that tells what the check comes to;
-# one of tests/upgrade what a record of tests/check is in format 2; one of tests/explain, RECORD or RECORD.ENTRY, what such a record tells.
+# row NAME: runs a row. One of tests/apply is a folder with two playlists and the result; one of tests/check a record, with the line that `check`
+# writes beside it; one of tests/upgrade a record of tests/check in format 2; one of tests/explain, RECORD or RECORD.ENTRY, what `explain` writes of
+# such a record.
 row() {
     local at=$here/$1 input=/dev/null output=$here/$1.stdout words
     case $1 in
@@ -77,7 +79,7 @@ expect read_of_a_folder_as_the_base /dev/null 4 'llhls: Read' apply "$here" "$re
 expect read_of_no_delta /dev/null 4 'llhls: Read' apply "$recent/base" "$room/none" </dev/null
 expect read_of_no_delta_after_a_bad_base /dev/null 4 'llhls: Read' apply /dev/null "$room/none" </dev/null
 
-# As many requests as may be held, and one more, which is Busy.
+# As many requests as can be held, and one more, which is Busy.
 {
     printf '%s\n' '#LLHLS-CHUNK 2' 'channel cam target=4 part=1000000 skip=24 window=36 renditions=hi first=0 start=0' 'at 0'
     awk 'BEGIN { for (n = 1; n <= 65536; n++) print "A " n " hi 0 0 - held"; print "A 65537 hi 0 0 - busy\n#END" }'
@@ -86,7 +88,7 @@ printf '%s\n' 'chain 1' 'entries 65537' 'items 0' 'first reading 0' 'last readin
     'still held 65536' 'most held 65536' 'too far 0' 'not found 0' 'busy 1' >"$room/busy.stdout"
 expect explain_of_a_busy_answer "$room/busy.stdout" 0 '' explain "$room/busy" </dev/null
 
-# expect_full NAME STATUS FAULT WORD..: the same, where standard output is a full device.
+# expect_full NAME STATUS FAULT WORD..: runs the program with a full device as its standard output, and tests its status and its fault.
 expect_full() {
     local status
     timeout 60 "$program" "${@:4}" >/dev/full 2>"$room/stderr"
@@ -98,7 +100,7 @@ expect_full() {
     fi
 }
 
-# What is written into a full device is lost, and a script without answers is run to its end.
+# What is written to a full device is lost; a script without answers is run to its end.
 expect_full write_to_a_full_device 4 'llhls: Write' replay <"$first"
 expect_full apply_to_a_full_device 4 'llhls: Write' apply "$recent/base" "$recent/delta" </dev/null
 expect_full explain_to_a_full_device 4 'llhls: Write' explain "$here/check/a_held_request" 3 </dev/null

@@ -1,14 +1,15 @@
 #!/usr/bin/env bash
-# Starts `llhls serve` on loopback as `rt try` builds it, with examples/serve.settings but on two ports that are free and with its record in a folder that is removed; publishes the part of examples/first.script, holds a request for the next part, publishes that, shows what the player got, which is to be
+# Starts `llhls serve` on loopback as `rt try` builds it, with examples/serve.settings but on two free ports and with its record in a folder that is
+# removed. Publishes the part of examples/first.script, holds a request for the next part, publishes that, shows what the player got, which has to be
 # examples/held.expected, and stops the server.
 . "$(dirname "${BASH_SOURCE[0]}")/common.sh" || exit 2
 
-# is_open PORT: whether someone listens there.
+# is_open PORT: returns whether someone listens there.
 is_open() {
     (exec 3<>"/dev/tcp/127.0.0.1/$1") 2>/dev/null
 }
 
-# (rt shows what the program says once it has ended, so the ports are chosen here and not by the system)
+# rt shows what the program writes once it has ended, so the ports are chosen here and not by the system.
 port=$((20000 + RANDOM % 10000))
 while is_open "$port" || is_open $((port + 1)); do
     port=$((port + 2))
@@ -17,7 +18,7 @@ publish_port=$((port + 1))
 sed -e "s/^listen .*/listen 127.0.0.1:$port/" -e "s/^publish .*/publish 127.0.0.1:$publish_port/" -e "s|^record |&$room/|" "$root/examples/serve.settings" >"$room/settings"
 setsid "$root/tests/try.sh" serve "$room/settings" >"$log" 2>&1 &
 server=$!
-# (rt and the program that it starts are one group)
+# rt and the program that it starts are one group.
 servers=("-$server")
 for ((tries = 0; tries < 3000; tries++)); do
     if is_open "$port" && is_open "$publish_port"; then
@@ -52,7 +53,7 @@ echo "(it waits)"
 publish "$(sed -n 's/^pub //p' "$root/examples/held.script" | tail -n 1)"
 timeout 10 cat <&"$player" | tr -d '\r' | tee "$room/answer"
 
-# (what follows the answers to the script's lines is the playlist)
+# The playlist follows the answers to the script's lines.
 if ! sed '1,/^$/d' "$room/answer" | cmp - <(sed '1,/^reply /d' "$root/examples/held.expected"); then
     give_up "it isn't the playlist of examples/held.expected"
 fi

@@ -1,7 +1,8 @@
 #!/usr/bin/env bash
-# serve.sh PROGRAM: `llhls serve` with real sockets on loopback. The same events go to it and, as a script, to `llhls replay`: tests/follow.c demands
-# the same bytes on each connection. Then come crowds, peers that are slow, silent, cut off or gone, large media (tests/bodies.py), ports and files that can't be had, and each fault
-# of a settings file. With SLOW=1 also what takes the 30 seconds of a silent peer. The last line is `N passed, M failed`.
+# serve.sh PROGRAM: tests `llhls serve` with real sockets on loopback. The same events go to it and, as a script, to `llhls replay`: tests/follow.c
+# demands the same bytes on each connection. Then come crowds, peers that are slow, silent, cut off or gone, large media (tests/bodies.py), ports and
+# files that aren't available, and each fault of a settings file. SLOW=1 adds what takes the 30 seconds of a silent peer. The last line is `N passed,
+# M failed`.
 . "$(dirname "${BASH_SOURCE[0]}")/server.sh" || exit 2
 take_program "$1"
 peers=()
@@ -31,19 +32,19 @@ hang_up() {
     peers=()
 }
 
-# follow WAY: the script `room/say` (tests/hex_lines.sh) by replay, and by the server that runs.
+# follow WAY: runs the script `room/say` (tests/hex_lines.sh) by replay and by the server that runs, and compares what each connection gets.
 follow() {
     "$here/hex_lines.sh" "$1" <"$room/say" >"$room/script"
     timeout 60 "$program" replay <"$room/script" >"$room/wanted" || return 1
     timeout 60 "$room/follow" "$port" "$publish_port" "$room/script" "$room/wanted"
 }
 
-# say NUMBER TARGET [FIELD]: such a line with a request.
+# say NUMBER TARGET [FIELD]: prints a line `say` with a request.
 say() {
     printf 'say %d GET %s HTTP/1.1\\r\\nHost: a\\r\\n%s\\r\\n\n' "$1" "$2" "${3+$3\\r\\n}"
 }
 
-# Rows of tests/connections, in one piece and byte by byte.
+# row ROW WAY: follows a row of tests/connections, in one piece or byte by byte.
 row() {
     mapfile -t channels < <(grep '^channel ' "$1")
     start 16 "${channels[@]}" || return 1
@@ -51,8 +52,9 @@ row() {
     follow "$2"
 }
 
-# Two channels, several renditions and a dozen connections, in an order that is the same each time: parts, finishes of open segments and where none is open, breaks, ends, plain
-# requests, requests for what is next or a segment ahead, delta updates, targets that are refused, connections that hang up.
+# same_as_replay SEED: two channels, several renditions and a dozen connections, in an order that SEED decides: parts, finishes of open segments and
+# without an open one, breaks, ends, plain requests, requests for what is next or a segment ahead, delta updates, targets that are refused,
+# connections that hang up.
 same_as_replay() {
     local channels=('channel cam target=60 part=60000000 skip=360 window=540 renditions=hi,lo first=5 start=1790000000000'
         'channel two target=60 part=20000000 skip=360 window=540 renditions=hi first=0 start=0')
@@ -88,14 +90,14 @@ same_as_replay() {
     follow whole
 }
 
-# held_less_than KB: the server's memory was never this much.
+# held_less_than KB: tests that the server's memory was always below KB.
 held_less_than() {
     local peak
     peak=$(awk '/^VmHWM:/ { print $2 }' "/proc/$server/status")
     [ "$peak" -lt "$1" ] || { echo "the server held $peak KB"; return 1; }
 }
 
-# A player that waits takes some 20 KB with its worker: a larger place on the stacks of workers would show in the memory of a thousand.
+# A player that waits takes some 20 KB with its worker. A larger place on the stacks of workers would show in the memory of a thousand.
 thousand_held() {
     local number
     start 1100 "$cam" || return 1
@@ -103,7 +105,7 @@ thousand_held() {
     follow whole && [ "$(grep -c '^sent ' "$room/wanted")" = 1000 ] && held_less_than 32000
 }
 
-# five_hundred_at_once WORKERS [FIELD]
+# five_hundred_at_once WORKERS [FIELD]: five hundred connections ask at once.
 five_hundred_at_once() {
     local number
     start "$1" "$cam" || return 1
@@ -111,7 +113,7 @@ five_hundred_at_once() {
     follow whole && [ "$(grep -c '^sent ' "$room/wanted")" = 500 ]
 }
 
-# As many channels as there may be.
+# As many channels as a server can have.
 most_channels() {
     local number channels=()
     for ((number = 1; number <= 1024; number++)); do
@@ -121,7 +123,7 @@ most_channels() {
     publish 'c1024 part hi 1000000 i' 'ok 1' && ask /c1024/hi/live.m3u8 | grep -q 's0\.0\.m4s' || { echo "the last channel isn't served"; return 1; }
 }
 
-# A head comes a byte at a time; in the midst of it another player is served, and a part is published.
+# A head comes a byte at a time; in the middle of it another player is served, and a part is published.
 drips_its_head() {
     start 2 "$cam" || return 1
     { echo "$cam"; echo 'say 1 GET /cam/hi/live.m3u8?_HLS_msn=0&_H'; say 2 "$present"; echo 'drop 2'; echo "pub $part"
@@ -129,7 +131,7 @@ drips_its_head() {
     follow bytes
 }
 
-# Players that send nothing, more than there are workers, keep none.
+# Players that send nothing, more than there are workers, occupy none.
 sends_nothing() {
     local number
     start 2 "$cam" || return 1
@@ -148,8 +150,8 @@ hangs_up_while_held() {
     follow whole && is_served
 }
 
-# Players whose requests are held have all workers, and hang up: another is answered long before the 12 seconds of a time-out. Of every second one there
-# are bytes that no one has read.
+# Players whose requests are held occupy all workers, and hang up: another player is answered long before the 12 seconds of a time-out. Of every
+# second one there are bytes that no one has read.
 gives_workers_back() {
     local number from
     start 100 "$cam" || return 1
@@ -188,7 +190,7 @@ reads_slowly() {
     wait "$writer"
 }
 
-# What a publisher didn't end is no line; another one isn't touched by it.
+# What a publisher didn't end is no line, and doesn't affect another publisher.
 publisher_cut_off() {
     start 4 "$cam" || return 1
     connect "$publish_port" || return 1
@@ -198,7 +200,7 @@ publisher_cut_off() {
     publish "$part" 'ok 2'
 }
 
-# Lines of 4,096 and 4,097 bytes, each answered once; the next ones are read. Lines may come in pieces, several in one, and end in CR LF.
+# Lines of 4,096 and 4,097 bytes are answered once each, and the next ones are read. Lines can come in pieces, several in one, and end in CR LF.
 lines_of_publishers() {
     local answers
     start 4 "$cam" || return 1
@@ -221,8 +223,8 @@ no 1 NoRendition
 ok 2' ] || { echo "$answers"; return 1; }
 }
 
-# The bytes of parts and of an initialization section: as many as a part may have, one more, none, some of which are LF, and with another byte where their LF should stand. Of what goes away
-# in the midst of its bytes nothing is published.
+# The bytes of parts and of an initialization section: as many as a part can have, one more, none, some of which are LF, and with another byte in
+# place of the LF after them. Of a publisher that goes away within them, nothing is published.
 bytes_of_publishers() {
     local answers short='cam part hi 100000 -'
     start 4 "$cam" || return 1
@@ -261,14 +263,15 @@ playlists_and_hinted_parts() {
     follow whole && [ "$(grep -ac '^sent ' "$room/wanted")" = 400 ]
 }
 
-# bodies WORKERS KB WHAT: large media, or many who wait (tests/bodies.py); the server's memory was never so many KB, and then it serves others.
+# bodies WORKERS KB WHAT: large media, or many players that wait (tests/bodies.py). The server's memory is always below KB, and it serves others
+# afterwards.
 bodies() {
     start "$1" "$cam" || return 1
     timeout 60 python3 "$here/bodies.py" "$3" "$port" "$publish_port" || { echo "tests/bodies.py ended with status $?"; return 1; }
     held_less_than "$2" && is_served
 }
 
-# Many connections while the server may open no more files: it says so once, and serves others afterwards.
+# Many connections while the server can't open any more files: it reports that once, and serves others afterwards.
 files_run_out() {
     local number answer
     FILES=40 start 64 "$cam" || return 1
@@ -282,7 +285,7 @@ files_run_out() {
     is_served && publish "$part" 'ok 1' && [ "$(wc -l <"$log")" -le 3 ]
 }
 
-# A stop takes no longer for the requests that are held.
+# A stop takes no longer because requests are held.
 stops_while_requests_are_held() {
     local number
     start 64 "$cam" || return 1
@@ -307,7 +310,7 @@ stops_while_requests_are_held() {
     return 1
 }
 
-# ends FAULT STATUS WORDS..: the program tells this fault last, and ends.
+# ends FAULT STATUS WORD..: tests that the program reports FAULT last, and ends with STATUS.
 ends() {
     local fault=$1 wanted=$2 status
     shift 2
@@ -319,7 +322,7 @@ ends() {
     fi
 }
 
-# Either port may be the one that is taken.
+# Either port can be taken already.
 taken_ports() {
     start 4 "$cam" || return 1
     printf '%s\n' "listen 127.0.0.1:$port" 'publish 127.0.0.1:0' 'workers 4' "$cam" >"$room/second"
@@ -328,13 +331,13 @@ taken_ports() {
     ends Listen 4 serve "$room/second" && is_served
 }
 
-# bad LINE TEXT: a settings file of this text, with \n for its ends of lines, has this line to blame.
+# bad LINE TEXT: tests that a settings file of this text, with \n for its ends of lines, is refused for LINE.
 bad() {
     printf '%b' "$2" >"$room/bad"
     ends "BadLine $1" 3 serve "$room/bad"
 }
 
-# After 30 seconds a silent player is closed, a silent publisher isn't.
+# After 30 seconds a silent player's connection is closed, a silent publisher's isn't.
 silent_for_long() {
     local answer from=$SECONDS
     start 4 "$cam" || return 1
@@ -346,7 +349,8 @@ silent_for_long() {
     read -r -t 10 answer <&"${peers[0]}" && [ "$answer" = 'ok 1' ]
 }
 
-# Rows without other lines than these. The server reads nothing while a request waits, so the rows with too many bytes after one are left out.
+# Rows without `get`, `clock` and `close` lines. The server reads nothing while a request waits, so the rows with too many bytes
+# after one are left out.
 for output in "$here"/connections/*.stdout; do
     row=${output%.stdout}
     if ! grep -q '^\(get\|clock\|close\) ' "$row" && [[ ${row##*/} != too_many_bytes_* ]]; then
@@ -368,7 +372,7 @@ for name in thousand_held most_channels drips_its_head sends_nothing hangs_up_wh
     lines_of_publishers bytes_of_publishers playlists_and_hinted_parts files_run_out stops_while_requests_are_held taken_ports; do
     try "$name"
 done
-# Players that get the same bytes have them in common: a copy for each of a thousand would be 1 GB.
+# Players that get the same bytes share them: a copy for each of a thousand would be 1 GB.
 while read -r words; do
     try bodies $words
 done <<END

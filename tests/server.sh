@@ -1,7 +1,7 @@
 # What tests of `llhls serve` share beside tests/common.sh; they have one server at a time.
 . "$(dirname "${BASH_SOURCE[0]}")/common.sh" || exit 2
 
-# try NAME WORDS..: runs a test, and stops its server. Where it failed, what it says is shown, and what the server says.
+# try NAME WORD..: runs a test, and stops its server. If the test failed, shows its output and the server's.
 try() {
     if "$@" >"$room/said" 2>&1; then
         pass
@@ -12,7 +12,7 @@ try() {
     stop
 }
 
-# publish LINE ANSWER: a publisher with a connection of its own.
+# publish LINE ANSWER: publishes a line on a connection of its own, and tests its answer.
 publish() {
     local publisher answer
     exec {publisher}<>"/dev/tcp/127.0.0.1/$publish_port" || return 1
@@ -22,12 +22,12 @@ publish() {
     [ "$answer" = "$2" ] || { echo "$1 is answered '$answer'"; return 1; }
 }
 
-# request TARGET [FIELD]: a head.
+# request TARGET [FIELD]: prints the head of a request.
 request() {
     printf 'GET %s HTTP/1.1\r\nHost: a\r\n%s\r\n' "$1" "${2+$2$'\r\n'}"
 }
 
-# ask TARGET: prints the whole response, on a connection of its own that isn't kept.
+# ask TARGET: prints the whole response to a request, on a connection of its own that isn't kept.
 ask() {
     local player
     exec {player}<>"/dev/tcp/127.0.0.1/$port" || return 1
@@ -36,7 +36,7 @@ ask() {
     exec {player}>&-
 }
 
-# is_served [CHANNEL]: a player gets a playlist of this channel, `cam` where none is named.
+# is_served [CHANNEL]: tests that a player gets a playlist of this channel, by default `cam`.
 is_served() {
     ask "/${1-cam}/hi/live.m3u8" | grep -q '^#EXT-X-PRELOAD-HINT' || { echo "a player of ${1-cam} isn't served"; return 1; }
 }

@@ -1,5 +1,5 @@
 /* Loaded into a program before its own libraries, this makes each device short: a read gives at most 5 bytes, and a write takes
-   at most 7. The first time that a read or a write was cut, the file that CUT_READ or CUT_WRITE names is made. */
+   at most 7. The first time that a read or a write is cut, it makes the file that CUT_READ or CUT_WRITE names. */
 #define _GNU_SOURCE
 #include <fcntl.h>
 #include <stddef.h>

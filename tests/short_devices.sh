@@ -1,11 +1,11 @@
 #!/usr/bin/env bash
-# short_devices.sh PROGRAM: runs each row of tests/rows and tests/apply, and the program's other uses, over devices that give at most
-# 5 bytes a read and take at most 7 a write. The last line, `N passed, M failed`, is that of tests/rows.sh, and counts besides that
-# both were cut.
+# short_devices.sh PROGRAM: runs each row of tests/rows and tests/apply, and the program's other uses, over devices that give at most 5 bytes a read
+# and take at most 7 bytes a write. The last line, `N passed, M failed`, is that of tests/rows.sh, with one test more for reads and one for writes,
+# that any was cut.
 . "$(dirname "${BASH_SOURCE[0]}")/common.sh" || exit 2
 take_program "$1"
 compile "$here/short_devices.c" -shared -fPIC
-# The program over such devices; the commands that compare what it wrote keep theirs.
+# The program over such devices. The commands that compare what it wrote keep their own.
 cat >"$room/llhls" <<END
 #!/bin/sh
 LD_PRELOAD='$room/short_devices' CUT_READ='$room/cut_read' CUT_WRITE='$room/cut_write' exec '$program' "\$@"

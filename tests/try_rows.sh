@@ -1,6 +1,6 @@
 #!/usr/bin/env bash
-# try_rows.sh [EVERY]: runs each row, or the first of each EVERY rows, on the program as `rt try` builds it: unproved, with checks that stop it at a fault.
-# The last line is `N passed, M failed`.
+# try_rows.sh [EVERY]: runs each row, or the first of each EVERY rows, on the program as `rt try` builds it: unproved, with checks that stop it at a
+# fault. The last line is `N passed, M failed`.
 . "$(dirname "${BASH_SOURCE[0]}")/common.sh" || exit 2
 every=${1:-1}
 "$here/gather_rows.sh" "$room/all" || exit 2

@@ -1,16 +1,16 @@
 #!/usr/bin/env bash
-# upgrades.sh PROGRAM: has each record of tests/check written in format 2. What comes of a record that is right is found right, with as many entries; its chunks are all of format 2 and stand at
-# the same entries, with the same settings lines; and in format 2 it stays as it is. Of a record that isn't right, the line is written that `check` writes, and nothing else.
-# The last line, `N passed, M failed`, counts records.
+# upgrades.sh PROGRAM: has each record of tests/check written in format 2. If a record is right, the result is found right, with as many entries; its
+# chunks are all of format 2 and stand at the same entries, with the same settings lines; and `upgrade` leaves it as it is. If a record isn't right,
+# only the line that `check` writes is written. The last line, `N passed, M failed`, counts records.
 . "$(dirname "${BASH_SOURCE[0]}")/common.sh" || exit 2
 take_program "$1"
 
-# frame FILE: the lines of its chunks that stay: where each stands, its settings, and its end.
+# frame FILE: prints the lines of its chunks that stay: where each stands, its settings, and its end.
 frame() {
     grep -aE '^(channel |at |#END$)' "$1"
 }
 
-# is_upgrade RECORD ANSWER FILE: whether the file is this record in format 2; the answer is what `check` writes of it.
+# is_upgrade RECORD ANSWER FILE: returns whether FILE is this record in format 2; ANSWER is what `check` writes of it.
 is_upgrade() {
     [ "$("$program" check "$3")" = "$2" ] || return 1
     ! grep -qa '^#LLHLS-CHUNK 1$' "$3" || return 1

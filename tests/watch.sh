@@ -1,8 +1,9 @@
 #!/usr/bin/env bash
-# watch.sh PROGRAM: `llhls serve` with examples/media.settings, to which examples/publish.py publishes examples/pattern.mp4 in real time, once on a channel of its own and over and over
-# on another. ffmpeg plays the first from its first segment on, and has to see each frame of the file at its time, without a warning; the files of the playlist, one after another, are
-# the file. On the other one the same parts follow the first eight seconds, with their times eight seconds later; and a publisher that is killed amid a segment and started again goes on
-# after a break at the present time. Where ffmpeg isn't installed, it says so and tests nothing. The last line is `N passed, M failed`.
+# watch.sh PROGRAM: tests `llhls serve` with examples/media.settings, to which examples/publish.py publishes examples/pattern.mp4 in real time, once
+# on one channel and over and over on another. ffmpeg plays the first from its first segment on, and has to see each frame of the file at its time,
+# without a warning; the files of the playlist, one after another, are the file. On the other channel the same parts follow the first eight seconds,
+# with times eight seconds later; and a publisher that is killed in the middle of a segment and started again goes on after a break at the present
+# time. Without ffmpeg it says so and tests nothing. The last line is `N passed, M failed`.
 . "$(dirname "${BASH_SOURCE[0]}")/server.sh" || exit 2
 take_program "$1"
 file=$root/examples/pattern.mp4
@@ -10,7 +11,7 @@ once=$(sed -n 's/^channel /&/p' "$root/examples/media.settings")
 [ -n "$once" ] || give_up 'examples/media.settings has no channel'
 again=${once/ pattern / again }
 
-# file_of CHANNEL NAME..: these files of its rendition, one after another.
+# file_of CHANNEL NAME..: prints these files of its rendition, one after another.
 file_of() {
     local name
     for name in "${@:2}"; do
@@ -24,7 +25,7 @@ published() {
     publishers+=($!)
 }
 
-# has COUNT CHANNEL: waits until its publisher has had so many answers.
+# has COUNT CHANNEL: waits until the channel's publisher has had COUNT answers.
 has() {
     local tries
     for ((tries = 0; tries < 300; tries++)); do
@@ -37,7 +38,7 @@ has() {
     return 1
 }
 
-# The frames that ffmpeg sees, each with its time. (It reads the section anew after each playlist, and says so.)
+# frames FILE: prints the frames that ffmpeg sees, each with its time. ffmpeg reads the section anew after each playlist, and says so.
 frames() {
     timeout 60 ffmpeg -nostdin -v warning -i "$1" -f framemd5 - 2>"$room/warnings" | grep -v '^#'
     [ "${PIPESTATUS[0]}" = 0 ] && ! grep -v 'Found duplicated MOOV Atom\|^ *Last message repeated' "$room/warnings" >&2
@@ -58,7 +59,7 @@ goes_on_with_later_times() {
     ! file_of again live.m3u8 | grep -x '#EXT-X-DISCONTINUITY'
 }
 
-# amid: waits until the publisher of `again` has had two parts of a segment answered, of four.
+# amid: waits until the publisher of `again` has had answers for two of a segment's four parts.
 amid() {
     local tries
     for ((tries = 0; tries < 100; tries++)); do
@@ -80,7 +81,7 @@ comes_back() {
     [ "$(sed -n '3s/^.* \([0-9]*\): ok .*$/\1/p' "$room/again")" -ge "$now" ] && file_of again live.m3u8 | grep -A 1 -x '#EXT-X-DISCONTINUITY' | grep -qx '#EXT-X-MAP:URI="init1.mp4"'
 }
 
-# watched NAME: runs a test; where it failed, what it says is shown.
+# watched NAME: runs a test, and shows its output if it failed.
 watched() {
     if "$1" >"$room/said" 2>&1; then
         pass
@@ -98,7 +99,7 @@ publishers=()
 serve "$program" 'workers 64' "$once" "$again" || give_up "the server isn't up"
 published pattern
 published again --loop
-# (a section and four parts: the first segment)
+# A section and four parts: the first segment.
 has 5 pattern || give_up 'nothing is published'
 for name in plays is_the_file goes_on_with_later_times comes_back; do
     watched "$name"
