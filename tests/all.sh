@@ -66,8 +66,8 @@ proofs=$!
 until grep -Eqs '^rt: llhls (proved$|is kept: )' "$room/proofs" || [ -e "$room/proofs.status" ]; do
     sleep 1
 done
-for name in log push record; do
-    begin "tests/$name.sh" "$program"
+for name in log.sh push.py record.sh; do
+    begin "tests/$name" "$program"
     waiting=$((waiting + 1))
 done
 begin tests/killed.py "$program" 20

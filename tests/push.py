@@ -1,317 +1,484 @@
 #!/usr/bin/env python3
-"""What tests/push.sh needs beside the shell: inputs that are made by hand, the messages that they have to become, peers that behave as a plan says, and a player.
-
-push.py input NAME              writes the input NAME
-push.py messages FILE [WORD..]  writes the messages of the input in FILE, for cam and hi: with `end`, the rendition's end too; with `ahead=no`, as for encoders whose fragments are
-                                parts; with `at=NUMBER,INDEX,END,TIME`, for a rendition that stands there instead of one without parts; `now=MS` is the time of the clock
-push.py published FILE          writes the sections and the parts of these messages, as players get them
-push.py fault FILE              writes the fault that ends them, if one does
-push.py later FILE MICROS       writes standard input, a part of FILE, with its times MICROS microseconds later
-push.py slowly NAME             writes the input with a pause before each fragment
-push.py begin NAME COUNT        writes the beginning of the input, up to the end of COUNT fragments
-push.py damaged SEED            writes the input `many` with some bytes changed, or cut off
-push.py peer FILE RECORD PLAN [AT]  is an origin: writes its port to FILE, and to RECORD what it has accepted. It answers where its rendition stands, at first at AT. PLAN says for each
-                                connection, separated by `/`, what becomes of each message, separated by `,`: `ok`; `lose` accepts it and hangs up; `drop` takes it and hangs up; `half`
-                                takes some of it and hangs up; `close` hangs up before it; anything else is the answer. What begins with `?` applies to the question where the rendition
-                                stands, and comes first
-push.py terminal WORD..         runs a program of these words with a terminal as its standard error, and writes what that shows
-push.py play PORT CHANNEL FILE  gets all that the playlist of hi names, whose bytes have to be those of FILE; what is left of FILE may be whole boxes
-"""
-import os
+"""push.py PROGRAM [TEST..]: tests `llhls push` with real sockets on loopback, all or those of these names. Inputs that are made by hand go to `llhls serve`, and to origins that hang
+up, refuse or answer nonsense. What was sent is compared with messages that are made beside it, and what is served with the input. If ffmpeg is installed, its output goes the same way.
+The last line is `N passed, M failed`."""
+import functools
+import itertools
+import pathlib
 import pty
-import random
 import re
-import socket
-import struct
+import shutil
+import signal
 import subprocess
 import sys
 import time
-import urllib.request
 
-import push_model
-from push_made import FTYP, MDAT, MOOV, PLAIN, box, fragment, moof, movie, numbers, track
+from push_inputs import beginning, damaged, fault_of, input_of, messages, pieces, published
+from push_model import Standing
+from push_peer import ALL_OK, address_of, held_port
+from push_room import Wrong, check, ended, try_all
+from push_rows import BAD_ANSWERS, BAD_PLACES, ELSEWHERE, GOES_ON_AFTER, HANGS_UP, ORIGIN_REFUSES, SERVER_REFUSES, STARTS, WRONG_WORDS
 
+HERE = pathlib.Path(__file__).resolve().parent
+# The rendition's time is ahead of any clock, so that what is published needs no time of its own.
+CAM = 'channel cam target=4 part=1000000 skip=24 window=36 renditions=hi,lo first=0 start=4000000000000'
+SHORT = 'channel cam target=2 part=1000000 skip=12 window=18 renditions=hi,lo first=0 start=4000000000000'
 
-# A movie of 1,000 ticks a second, and then fragments: the ticks of their samples, and whether each begins with a sync sample.
-STREAMS = {
-    'one': [([500], True)],
-    'two': [([200, 300], True), ([500], False)],
-    'many': [([250, 250], n % 4 == 0) for n in range(10)],
-    'short': [([1], n == 0) for n in range(30)],
-    'nothing': [],
-}
-
-# Sound of 48,000 ticks a second and a picture of 12,800, which governs.
-BOTH = movie(track(1, 48000, b'soun'), track(2, 12800, b'vide'), defaults=(1, 2))
+# ---- what tests look at
 
 
-def picture(tick, sync):
-    return moof([512], 0 if sync else PLAIN, 2, tick) + box(b'mdat', b'picture at %d' % tick)
+def ends(run, status, fault=''):
+    """Tests that a run ends with this status, prints nothing, and says this fault last; without a fault it says nothing."""
+    last = run.stderr[run.stderr[:-1].rfind('\n') + 1:]
+    wanted = f'llhls: {fault}\n' if fault else ''
+    check((run.status, last, run.stdout) == (status, wanted, b''), f'status {run.status}, and {status} is wanted with {wanted!r}; standard output {run.stdout[:100]!r}')
 
 
-def sound(tick):
-    return moof([1024, 1024], 0, 1, tick) + box(b'mdat', b'sound at %d' % tick)
+def ends_with(run, status, fault):
+    """Tests that it says nothing else before."""
+    ends(run, status, fault)
+    check(run.stderr.count('\n') <= 1, 'it says more than its fault')
 
 
-def both(ticks, jump=0):
-    """Returns fragments of a picture of 25 frames a second at these ticks, with a sync sample each second, and of sound beside it."""
-    return [[picture(tick, n % 25 == 0), sound(tick * 48000 // 12800 + jump)] for n, tick in enumerate(ticks)]
+def passes(run, lost):
+    """Tests that a run ends with status 0, prints nothing, and has reported `lost` times that the connection is lost."""
+    check((run.status, run.stdout) == (0, b''), f'status {run.status}, standard output {run.stdout[:100]!r}')
+    said_lost(run, lost)
 
 
-def whole(fragments, first=BOTH):
-    return FTYP + first + b''.join(b''.join(each) for each in fragments)
+def said_lost(run, count):
+    """Tests that a run has reported `count` times that the connection is lost."""
+    said = sum('the connection is lost' in line for line in run.stderr.split('\n'))
+    check(said == count, f'{said} connections are lost, and not {count}')
 
 
-BEFORE = FTYP + MOOV + fragment([500])
-INPUTS = {
-    # Inputs that are refused after the movie and a fragment, or at once.
-    'bad_box': BEFORE + numbers(7) + b'free',
-    'endless_box': BEFORE + numbers(0) + b'mdat',
-    'large_box': BEFORE + numbers(1 << 21) + b'free',
-    'empty': b'',
-    'no_more_than_its_type': FTYP,
-    'no_movie': FTYP + fragment([500]),
-    'no_track': FTYP + movie(),
-    'no_scale': FTYP + movie(track(1, 0)),
-    'other_track': BEFORE + moof([500], 0, 2) + MDAT,
-    'long': FTYP + MOOV + fragment([200, 301]),
-    'two_moofs': BEFORE + moof([100]) + moof([100]) + MDAT,
-    'cut': BEFORE + fragment([500])[:-1],
-    'no_mdat': BEFORE + moof([500]),
-    # Inputs that aren't refused.
-    'second_movie': BEFORE + FTYP + MOOV + fragment([400]),
-    'two_tracks': FTYP + movie(track(1, 1000), track(2, 1000)) + fragment([500]),
-    'samples_alone': BEFORE + MDAT + fragment([400]),
-    'empty_fragment': BEFORE + fragment([0]) + fragment([400]),
-    'sound_and_picture': whole(both(range(0, 512 * 60, 512))),
-    'gap': whole(both(range(0, 512 * 30, 512)) + both(range(512 * 130, 512 * 160, 512))),
-    'times_go_back': whole(both(range(512 * 50, 512 * 80, 512)) + both(range(0, 512 * 30, 512))),
-    'late_times': whole(both(range((1 << 32) - 512 * 40, (1 << 32) - 512, 512), -((1 << 32) * 48000 // 12800) + (1 << 31))),
-    'indexes': FTYP + MOOV + box(b'styp', b'cmfs') + box(b'sidx', b'x' * 32) + fragment([500]) + box(b'mfra', b'x' * 3000) + fragment([500]),
-}
+def took(peer, data, **stands):
+    """Tests that the origin has accepted exactly the messages of an input."""
+    taken, wanted = peer.rendition.accepted, messages(data, **stands)[0]
+    if taken != wanted:
+        same = sum(1 for _ in itertools.takewhile(lambda pair: pair[0] == pair[1], zip(taken, wanted)))
+        raise Wrong(f'the origin has taken {len(taken)} messages of {len(wanted)}: after {same} comes {taken[same:same + 1]!r:.200}, and not {wanted[same:same + 1]!r:.200}')
 
 
-def pieces(name):
-    """Returns the initialization section and the fragments of a stream."""
-    return [FTYP + MOOV] + [fragment(ticks, 0 if sync else PLAIN) for ticks, sync in STREAMS[name]]
+def has_taken(peer, count):
+    """Tests that the origin has accepted `count` messages."""
+    check(len(peer.rendition.accepted) == count, f'the origin has taken {len(peer.rendition.accepted)} messages, and not {count}')
 
 
-def input_of(name):
-    return INPUTS[name] if name in INPUTS else b''.join(pieces(name)) + box(b'mfra', b'x')
+def took_first(peer, count, data):
+    """Tests that the origin, until it ended, has accepted exactly the first `count` messages of an input."""
+    check(peer.has_ended(), 'the origin still waits')
+    check(messages(data)[0][:count] == peer.rendition.accepted, f'the origin has taken other messages than the first {count}')
+    has_taken(peer, count)
 
 
-LENGTHS = push_model.Lengths(part=500000, segment=2000000, most=3000000)
+def plays(server, data, channel='cam'):
+    """Tests that players get these bytes, of which the last whole boxes may be left out."""
+    fault = server.player(channel).fault_in(data)
+    check(not fault, fault)
 
 
-def sent(name, *words):
-    """Returns the messages of the input in a file, and the fault that ends it."""
-    said = dict(word.partition('=')[::2] for word in words)
-    lengths = LENGTHS._replace(ahead='ahead' not in said)
-    with open(name, 'rb') as file:
-        stands = place_of(said['at']) if 'at' in said else push_model.Standing()
-        return push_model.messages(file.read(), lengths, ends='end' in said, stands=stands, now=int(said.get('now', 0)))
+def lists(server, words):
+    """Tests that the playlist has these words: sections and parts, segments with their seconds, the next part after `then`, breaks and the end."""
+    listed = server.player().listed()
+    check(listed == words, f'the playlist has {listed}, and not {words}')
 
 
-def published(name):
-    """Returns the sections and parts of its messages. A section that is sent once more after a break comes to players once more."""
-    bodies = [message.partition(b'\n')[2][:-1] for message in sent(name)[0]]
-    return b''.join(bodies)
+def now():
+    """Returns the time of the clock, in milliseconds."""
+    return time.time_ns() // 1000000
 
 
-def later(name, micros):
-    with open(name, 'rb') as file:
-        movie = next(each for each in push_model.elements(file.read()) if isinstance(each, push_model.Movie))
-    tracks = tuple((track.id, track.scale) for track in movie.tracks)
-    return push_model.moved(sys.stdin.buffer.read(), push_model.Shift(tracks, movie.governing.scale, 0, int(micros)))
+# ---- whole inputs
 
 
-def damaged(seed):
-    chance = random.Random(seed)
-    data = bytearray(input_of('many'))
-    if seed % 4 == 0:
-        return data[: chance.randrange(len(data))]
-    for _ in range(chance.randrange(1, 4)):
-        at = chance.randrange(len(data))
-        data[at] = chance.choice([0, 255, data[at] ^ 1 << chance.randrange(8), chance.randrange(256)])
-    return data
+def to_server(room, status, fault, name, channel=CAM):
+    """A push of an input to the server ends with this status and fault."""
+    server = room.serve(channel)
+    ends(room.push(server.address, input_of(name)), status, fault)
+    return server
 
 
-def slowly(name):
-    for piece in pieces(name):
-        time.sleep(0.4)
-        os.write(1, piece)
+def is_served_whole(room, name):
+    """The server then has the bytes of the input's messages."""
+    plays(to_server(room, 0, '', name), published(input_of(name)))
 
 
-def take(stream):
-    """Returns the next message, which is empty if no more comes."""
-    line = stream.readline()
-    words = line.split()
-    if len(words) in (4, 6) and words[1] in (b'init', b'part'):
-        return line + stream.read(int(words[-1]) + 1)
-    return line
+def sends_its_messages(room, name):
+    """An origin that accepts all gets exactly the messages that are made beside it."""
+    peer = room.peer(ALL_OK)
+    ends(room.push(peer.address, input_of(name)), 0)
+    took(peer, input_of(name))
 
 
-class Origin:
-    """A rendition, and what it has accepted."""
-
-    def __init__(self, record, place):
-        self.record, self.count, self.ended, self.lost = record, 0, False, b''
-        self.number, self.index, self.end, self.time = place
-
-    def accept(self, message):
-        words = message.partition(b'\n')[0].split()
-        # A section or a break that comes once more means the same, and is allowed only if its answer was lost.
-        if message != self.lost or words[1] not in (b'init', b'break'):
-            self.record.write(message)
-        self.count, self.lost = self.count + 1, b''
-        if words[1] == b'part':
-            self.index, self.end = self.index + 1, self.end + int(words[3])
-        if words[1] in (b'finish', b'end') or words[1] == b'part' and b'f' in words[4]:
-            self.number, self.index = self.number + (self.index > 0), 0
-        self.ended = self.ended or words[1] == b'end'
-
-    def told(self):
-        words = ['at', self.count, self.number, self.index, self.end, self.time] + ['ended'] * self.ended
-        return ' '.join(map(str, words)).encode() + b'\n'
+def sends_fragments_at_once(room, name):
+    """With `ahead=no` each fragment is a part."""
+    peer = room.peer(ALL_OK)
+    ends(room.push(peer.address, input_of(name), words=('ahead=no', 'retry=2', 'end')), 0)
+    took(peer, input_of(name), ahead=False)
 
 
-def hang_up(link):
-    # With bytes unread, the other end gets a reset.
-    link.setsockopt(socket.SOL_SOCKET, socket.SO_LINGER, struct.pack('ii', 1, 0))
+def encoder_comes_so(room, name):
+    """What an encoder wrote comes to an origin as its messages, and ends as the input does."""
+    data = (HERE / 'push' / f'{name}.mp4').read_bytes()
+    peer = room.peer(ALL_OK)
+    ends_with(room.push(peer.address, data), 3 if fault_of(data) else 0, fault_of(data))
+    took(peer, data)
 
 
-def meet(link, stream, what):
-    """Answers the question where the rendition stands. Returns whether the connection goes on after it."""
-    if what == 'close':
-        return False
-    if what == 'half':
-        stream.read(5)
-        hang_up(link)
-        return False
-    assert stream.readline() == b'cam at hi\n'
-    if what == 'drop':
-        return False
-    link.sendall(what if isinstance(what, bytes) else what.encode().decode('unicode_escape').encode('latin-1'))
-    return True
-
-
-def serve(link, plan, origin):
-    """Serves one connection."""
-    stream = link.makefile('rb')
-    asked = plan.pop(0)[1:] if plan[0].startswith('?') else origin.told()
-    # The answer and the end of the connection go together: whoever has read the one sees the other.
-    if plan[:1] == ['close']:
-        link.setsockopt(socket.IPPROTO_TCP, socket.TCP_CORK, 1)
-    if not meet(link, stream, asked):
-        return
-    for count, what in enumerate(plan, 1):
-        if what == 'close':
-            return
-        if what == 'half':
-            stream.read(10)
-            hang_up(link)
-            return
-        message = take(stream)
-        if what == 'drop' or not message:
-            return
-        if what in ('ok', 'lose'):
-            origin.accept(message)
-        if what == 'lose':
-            origin.lost = message
-            return
-        if plan[count:count + 1] == ['close']:
-            link.setsockopt(socket.IPPROTO_TCP, socket.TCP_CORK, 1)
-        link.sendall(b'ok %d\n' % origin.count if what == 'ok' else what.encode().decode('unicode_escape').encode('latin-1'))
-    rest = stream.read()
-    assert not rest, rest
-
-
-def place_of(words):
-    return push_model.Standing(*map(int, words.split(',')))
-
-
-def peer(file, name, plan, at=None):
-    listener = socket.create_server(('127.0.0.1', 0))
-    # What is accepted is seen in the file at once.
-    with open(name, 'wb', buffering=0) as record:
-        origin = Origin(record, place_of(at) if at else push_model.Standing())
-        with open(file, 'w') as told:
-            print(listener.getsockname()[1], file=told)
-        for each in plan.split('/'):
-            link, _ = listener.accept()
-            with link:
-                serve(link, each.split(','), origin)
-
-
-def terminal(words):
-    ours, its = pty.openpty()
-    program = subprocess.Popen(words, stderr=its)
-    os.close(its)
-    shown = b''
-    while True:
+def all_damaged(room):
+    """A damaged input is published as far as it goes, and ends in its fault."""
+    server = room.serve(*[CAM.replace(' cam ', f' c{seed} ') for seed in range(1, 101)])
+    for seed in range(1, 101):
+        data = damaged(seed)
         try:
-            shown += os.read(ours, 1000)
-        except OSError:
-            break
-    program.wait()
-    sys.stdout.buffer.write(shown)
+            ends_with(room.push(server.address, data, f'c{seed}'), 3 if fault_of(data) else 0, fault_of(data))
+            plays(server, published(data), f'c{seed}')
+        except Wrong as fault:
+            raise Wrong(f'seed {seed}: {fault}')
 
 
-def get(port, channel, name):
-    with urllib.request.urlopen(f'http://127.0.0.1:{port}/{channel}/hi/{name}', timeout=10) as answer:
-        return answer.read()
+# ---- origins that misbehave
 
 
-def play(port, channel, name):
-    with open(name, 'rb') as file:
-        wanted = file.read()
-    playlist = get(port, channel, 'live.m3u8').decode()
-    joined = b''
-    parts = b''
-    for line in playlist.splitlines():
-        quoted = re.search(r'^#EXT-X-(MAP|PART):.*URI="([^"]*)"', line)
-        if quoted and quoted[1] == 'MAP':
-            joined += get(port, channel, quoted[2])
-        elif quoted:
-            parts += get(port, channel, quoted[2])
-        elif line and line[0] != '#':
-            segment = get(port, channel, line)
-            if parts not in (b'', segment):
-                sys.exit(f"the parts of {line} aren't its bytes")
-            joined += segment
-            parts = b''
-    joined += parts
-    rest = wanted[len(joined):]
-    while len(rest) >= 8 and 8 <= int.from_bytes(rest[:4], 'big') <= len(rest):
-        rest = rest[int.from_bytes(rest[:4], 'big'):]
-    if not wanted.startswith(joined) or rest:
-        sys.exit(f'{len(joined)} bytes are served of {len(wanted)}, and {len(rest)} are left')
+def slowly(room, name):
+    """Yields the pieces of an input, each after a pause."""
+    for piece in pieces(name):
+        room.pause(0.4)
+        yield piece
 
 
-command, *words = sys.argv[1:]
-if command == 'input':
-    sys.stdout.buffer.write(input_of(*words))
-elif command == 'messages':
-    sys.stdout.buffer.write(b''.join(sent(*words)[0]))
-elif command == 'published':
-    sys.stdout.buffer.write(published(*words))
-elif command == 'later':
-    sys.stdout.buffer.write(later(*words))
-elif command == 'fault':
-    print(sent(*words)[1] or '')
-elif command == 'slowly':
+def hangs_up(room, plan, count):
+    """The origin hangs up `count` times before messages. The program reports each, and goes on."""
+    peer = room.peer(plan)
+    passes(room.push(peer.address, slowly(room, 'two')), count)
+    took(peer, input_of('two'))
+
+
+def goes_on_after(room, plan, count):
+    """`count` connections are lost as the plan says, and the origin has each message once in the end."""
+    peer = room.peer(plan)
+    passes(room.push(peer.address, input_of('two')), count)
+    took(peer, input_of('two'))
+
+
+def goes_on_everywhere(room, name, how, number):
+    """The message of this number of an input, from 0, is lost in this way."""
+    peer = room.peer('ok,' * number + f'{how}/{ALL_OK}')
+    passes(room.push(peer.address, input_of(name)), 1)
+    took(peer, input_of(name))
+    check(peer.has_ended(), 'the origin still waits')
+
+
+def stops_after(room, plan, status, fault, count):
+    """No byte is sent after a refusal."""
+    peer = room.peer(plan)
+    ends(room.push(peer.address, input_of('two')), status, fault)
+    took_first(peer, count, input_of('two'))
+
+
+def starts_at(room, at, words):
+    """A push to a rendition that stands at `at` sends these lines before its section, with NOW for the clock's time, and then the messages that are made beside it."""
+    stands = Standing(*map(int, at.split(',')))
+    peer = room.peer(ALL_OK, stands)
+    before = now()
+    passes(room.push(peer.address, input_of('two')), 0)
+    after = now()
+    heads = [message.partition(b'\n')[0].decode() for message in peer.rendition.accepted]
+    lines = ' '.join(line for line in heads if line.split()[1] in ('finish', 'break'))
+    times = [int(number) for number in re.findall('[0-9]+', lines)]
+    check(re.sub('[0-9]+', 'NOW', lines) == words, f'it begins with {lines}')
+    check(all(before <= each <= after for each in times), f"{times} aren't between {before} and {after}")
+    took(peer, input_of('two'), stands=stands, now=times[0] if times else 0)
+
+
+def no_server(room):
+    """Nobody listens at the address."""
+    with held_port() as held:
+        ends(room.push(address_of(held), input_of('one')), 4, 'Connect')
+
+
+def server_goes_away(room):
+    """The origin ends after its first connection: after a while the program stops trying."""
+    ends(room.push(room.peer('ok,close').address, slowly(room, 'two')), 4, 'Connect')
+
+
+def gives_up_at_once(room):
+    """With `retry=0` it stops at once."""
+    ends(room.push(room.peer('ok,drop').address, input_of('two'), words=('retry=0',)), 4, 'Connect')
+
+
+def gives_up_where_nothing_goes(room):
+    """The program stops trying also if nothing is accepted again and again: `retry=2` means four times after the first."""
+    run = room.push(room.peer('ok,drop/drop/half/?drop/drop').address, input_of('two'))
+    ends(run, 4, 'Connect')
+    said_lost(run, 5)
+
+
+# ---- the program's edge
+
+
+def wrong(room, *words):
+    """The program refuses these words."""
+    process = room.start([room.program, 'push', *words])
+    ends_with(ended(process), 2, 'usage')
+
+
+def reads_fail(room):
+    """Standard input can't be read."""
+    ends(room.push(room.peer('ok').address, room.folder), 4, 'Read')
+
+
+def shown_by(terminal):
+    """Returns what a terminal has shown until nobody has it open."""
+    shown = b''
     try:
-        slowly(*words)
-    except BrokenPipeError:
-        # The program has ended before its input.
-        sys.exit(1)
-elif command == 'begin':
-    sys.stdout.buffer.write(b''.join(pieces(words[0])[:1 + int(words[1])]))
-elif command == 'damaged':
-    sys.stdout.buffer.write(damaged(int(words[0])))
-elif command == 'peer':
-    peer(*words)
-elif command == 'terminal':
-    terminal(words)
-elif command == 'play':
-    play(*words)
+        while True:
+            shown += terminal.read(1000)
+    except OSError:
+        return shown.decode().replace('\r', '')
+
+
+def tells_how_it_goes(room):
+    """If standard error is a terminal, it has a line of what was published so far, at most once a second, and a line for each fault."""
+    peer = room.peer(r'ok,ok,ok,ok,no 4 TooLong\n')
+    ours, its = pty.openpty()
+    with open(ours, 'rb', buffering=0) as terminal:
+        with open(its, 'wb', buffering=0) as stderr:
+            run = room.push(peer.address, slowly(room, 'many'), words=(), stderr=stderr)
+        shown = shown_by(terminal)
+    line, _, rest = shown.partition('\n')
+    progress = r'(llhls: [1-9] parts, 0 segments, [01]\.[05]00 s, [0-9]+ kB/s, [0-9]+\.[0-9]{3} s behind  )+'
+    check(re.fullmatch(progress, line) and rest == 'llhls: no 4 TooLong\n' and (run.status, run.stdout) == (3, b''), f'status {run.status}, and it shows {shown}')
+
+
+# ---- a push that is stopped, and one that comes after another one
+
+
+def parts(number, count):
+    """Returns how a playlist lists `count` parts of a segment of this number."""
+    return ' '.join(f's{number}.{index}' for index in range(count))
+
+
+def segment(number, count):
+    """Returns how it lists a segment that has ended after `count` parts."""
+    return f'{parts(number, count)} s{number}={count / 2:.6f}'
+
+
+# The playlists of a push that is stopped after a segment, and after two parts of the next one.
+FOUR = f'init0 {segment(0, 4)} then s1.0'
+SIX = f'init0 {segment(0, 4)} {parts(1, 2)} then s1.2'
+
+
+def begin(room, address, count):
+    """Starts a push, which publishes `count` parts of `many`; a part is known to be whole once two more fragments have come. Its input has all of the next part but the last byte, and
+    then neither goes on nor ends."""
+    process = room.start_push(address, subprocess.PIPE)
+    process.stdin.write(beginning('many', count + 3)[:-1])
+    process.stdin.flush()
+    return process
+
+
+def ends_by(process, name):
+    """Tests that a push that is sent this signal ends by it and prints nothing."""
+    number = signal.Signals['SIG' + name]
+    process.send_signal(number)
+    try:
+        process.wait(timeout=10)
+    except subprocess.TimeoutExpired:
+        raise Wrong(f'{name} ends nothing')
+    run = ended(process)
+    check((run.status, run.stdout, run.stderr) == (-number, b'', ''), f'status {run.status}, standard output {run.stdout[:100]!r}')
+
+
+def stopped(room, name, channel, count, words):
+    """A push is sent this signal after `count` parts, in the middle of its input. The playlist is the same before and after it, without an end."""
+    server = room.serve(channel)
+    process = begin(room, server.address, count)
+    room.comes(lists, server, words)
+    ends_by(process, name)
+    lists(server, words)
+    return server
+
+
+def sends_no_end(room, name):
+    """Nothing is sent after the signal."""
+    peer = room.peer(','.join(['ok'] * 7))
+    process = begin(room, peer.address, 6)
+    room.comes(has_taken, peer, 7)
+    ends_by(process, name)
+    took_first(peer, 7, input_of('many'))
+
+
+def again(room, server, words, status=0, fault=''):
+    """Pushes the whole input `many`, and tests how that ends and what the playlist has then."""
+    ends(room.push(server.address, input_of('many')), status, fault)
+    lists(server, words)
+
+
+def begins_anew_amid(room):
+    """A further push finishes the segment that is open and begins one of its own, after a break. Players get all of both pushes."""
+    server = stopped(room, 'TERM', SHORT, 6, SIX)
+    again(room, server, f'init0 s0=2.000000 {segment(1, 2)} DISCONTINUITY init1 {segment(2, 4)} {segment(3, 4)} {segment(4, 2)} ENDLIST')
+    plays(server, beginning('many', 6) + input_of('many'))
+
+
+def begins_anew_between(room):
+    """It does the same if no segment is open."""
+    server = stopped(room, 'INT', SHORT, 4, FOUR)
+    again(room, server, f'init0 {segment(0, 4)} DISCONTINUITY init1 {segment(1, 4)} {segment(2, 4)} {segment(3, 2)} ENDLIST')
+    plays(server, beginning('many', 4) + input_of('many'))
+
+
+def tells_the_time(room):
+    """If the channel's time is behind the clock, the first segment has the clock's time, and so has the first one of a further push."""
+    before = now()
+    server = room.serve(CAM.replace('start=4000000000000', 'start=0'))
+    passes(room.push(server.address, input_of('two'), words=('retry=0',)), 0)
+    between = now()
+    room.pause(1.2)
+    passes(room.push(server.address, input_of('two'), words=('retry=0',)), 0)
+    after = now()
+    dates = server.player().dates()
+    check(len(dates) == 2 and before <= dates[0] <= between and between + 1200 <= dates[1] <= after, f'{dates} of {before} {between} {after}')
+
+
+def comes_after_end(room):
+    """A further push after one whose input has ended is refused, and changes nothing."""
+    words = f'init0 {segment(0, 2)} ENDLIST'
+    server = to_server(room, 0, '', 'two')
+    lists(server, words)
+    again(room, server, words, 3, 'no 2 Ended')
+    plays(server, published(input_of('two')))
+
+
+def ends_nothing(room):
+    """Without the word `end` nothing is ended, and the next push begins a segment, after a break."""
+    server = room.serve(CAM)
+    passes(room.push(server.address, input_of('two'), words=('most=3000000',)), 0)
+    lists(server, f'init0 {segment(0, 2)} then s1.0')
+    again(room, server, f'init0 {segment(0, 2)} DISCONTINUITY init1 {segment(1, 4)} {segment(2, 4)} {segment(3, 2)} ENDLIST')
+
+
+# ---- a real encoder
+
+# 9 seconds of a test pattern, as in docs/OPERATING.md; and 7 seconds of one and a tone, with a fragment for each frame, as in README.md.
+PATTERN = ('-f lavfi -i testsrc2=size=320x180:rate=24 -t 9 -c:v libx264 -preset ultrafast -pix_fmt yuv420p -g 48 '
+           '-f mp4 -movflags +frag_keyframe+empty_moov+default_base_moof -frag_duration 500000 -')
+TONE = ('-f lavfi -i testsrc2=size=320x180:rate=25 -f lavfi -i sine=frequency=440 -t 7 -c:v libx264 -preset ultrafast -tune zerolatency -pix_fmt yuv420p -g 50 -c:a aac '
+        '-f mp4 -movflags +delay_moov+default_base_moof -frag_duration 1000 -')
+
+
+def encoded(room, words):
+    """Yields what ffmpeg writes, piece by piece."""
+    encoder = room.start(['ffmpeg', '-v', 'error', *words.split()], stdout=subprocess.PIPE)
+    with encoder.stdout as output:
+        yield from iter(functools.partial(output.read1, 65536), b'')
+    check(encoder.wait() == 0, 'ffmpeg fails')
+
+
+def encoder_is_served(room):
+    """What an encoder writes comes to players byte for byte, and its parts and segments have the wanted durations."""
+    server = room.serve(CAM)
+    run = room.push(server.address, encoded(room, PATTERN))
+    ends(run, 0)
+    plays(server, published(run.source))
+    lines = server.player().lines()
+    half = sum(line.startswith('#EXT-X-PART:DURATION=0.500000,') for line in lines)
+    check((lines.count('#EXTINF:2.000000,'), half) == (4, 18), '\n'.join(lines))
+
+
+def frames_of(room, address):
+    """Returns the number of frames that ffmpeg plays."""
+    player = room.start(['ffmpeg', '-nostdin', '-v', 'error', '-i', address, *'-map 0:v -f framemd5 -'.split()])
+    return sum(not line.startswith(b'#') for line in ended(player).stdout.splitlines())
+
+
+def both_are_served(room):
+    """Sound and picture come to players; after an encoder is started anew it goes on after a break; each segment begins with a key frame; and ffmpeg plays each frame of both runs."""
+    server = room.serve(CAM)
+    run = room.push(server.address, itertools.chain(encoded(room, TONE), encoded(room, TONE)))
+    ends(run, 0)
+    plays(server, published(run.source))
+    lines = server.player().lines()
+    first = [line for line in lines if re.fullmatch(r'#EXT-X-PART:.*URI="s[0-9]*\.0\.m4s"', line)]
+    check((lines.count('#EXT-X-DISCONTINUITY'), lines.count('#EXTINF:2.000000,'), first) == (1, 6, []), '\n'.join(lines))
+    frames = frames_of(room, f'http://127.0.0.1:{server.port}/cam/hi/live.m3u8')
+    check(frames == 350, f'{frames} frames are played')
+
+
+# ---- all tests
+
+ONCE = (no_server, server_goes_away, gives_up_at_once, gives_up_where_nothing_goes, reads_fail, tells_how_it_goes, all_damaged,
+        tells_the_time, begins_anew_amid, begins_anew_between, comes_after_end, ends_nothing)
+WITH_FFMPEG = (encoder_is_served, both_are_served)
+LONGEST = (all_damaged, both_are_served, server_goes_away, gives_up_where_nothing_goes)
+
+
+def inputs():
+    """Yields the tests of whole inputs, each with its words."""
+    for name in ('one', 'two', 'many', 'short'):
+        yield is_served_whole, name
+    for name in 'one two many short second_movie two_tracks samples_alone empty_fragment sound_and_picture gap times_go_back late_times indexes'.split():
+        yield sends_its_messages, name
+        yield sends_fragments_at_once, name
+    for name in ('cut', 'vfr', 'lost', 'restart'):
+        yield encoder_comes_so, name
+    for name, _, fault in (line.partition(' ') for line in SERVER_REFUSES.splitlines()):
+        yield to_server, 3, fault, name
+    yield to_server, 3, 'no 4 TooLong', 'two', CAM.replace(' part=1000000 ', ' part=400000 ')
+    yield to_server, 3, 'no 14 UnknownChannel', 'one', CAM.replace(' cam ', ' other ')
+    yield to_server, 3, 'no 1 NoRendition', 'one', CAM.replace('hi,lo', 'lo')
+
+
+def origins():
+    """Yields those of origins that misbehave."""
+    for plan, count in HANGS_UP:
+        yield hangs_up, plan, count
+    for plan, count in GOES_ON_AFTER:
+        yield goes_on_after, plan, count
+    for name, count in (('two', 4), ('gap', 9)):
+        for how, number in itertools.product(('lose', 'drop', 'half'), range(count)):
+            yield goes_on_everywhere, name, how, number
+    for plan, fault, count in ORIGIN_REFUSES:
+        yield stops_after, plan, 3, fault, count
+    for answer in ELSEWHERE.splitlines():
+        yield stops_after, f'ok,drop/?{answer}', 3, 'Elsewhere', 1
+    for answer in BAD_PLACES.splitlines():
+        yield stops_after, f'?{answer}', 4, 'BadAnswer', 0
+    for at, words in STARTS:
+        yield starts_at, at, words
+    for answer in BAD_ANSWERS.splitlines():
+        yield stops_after, f'ok,{answer}', 4, 'BadAnswer', 1
+
+
+def all_tests():
+    """Yields each test with its words, in the order in which those that fail are shown."""
+    yield from inputs()
+    yield from origins()
+    for name in ('TERM', 'INT'):
+        yield stopped, name, CAM, 6, SIX
+        yield sends_no_end, name
+    for test in ONCE:
+        yield test,
+    for line in WRONG_WORDS.splitlines():
+        yield wrong, *line.split()
+    if shutil.which('ffmpeg'):
+        yield from ((test,) for test in WITH_FFMPEG)
+
+
+def main(path, *names):
+    program = shutil.which(pathlib.Path(path).resolve())
+    tests = [each for each in all_tests() if not names or each[0].__name__ in names]
+    if program is None or not tests:
+        print('there is no such test' if program else f'{path} is no program', '0 passed, 1 failed', sep='\n')
+        return 1
+    failed = try_all(program, tests, LONGEST)
+    if not shutil.which('ffmpeg'):
+        print('no ffmpeg: what a real encoder writes is not tried')
+    print(f'{len(tests) - failed} passed, {failed} failed')
+    return failed > 0
+
+
+if __name__ == '__main__':
+    sys.exit(main(*sys.argv[1:]))

@@ -55,7 +55,7 @@ is_the_file() {
 }
 
 goes_on_with_later_times() {
-    has 19 again && file_of again s4.0.m4s | cmp - <(file_of again s0.0.m4s | python3 "$here/push.py" later "$file" 8000000) || return 1
+    has 19 again && file_of again s4.0.m4s | cmp - <(file_of again s0.0.m4s | python3 "$here/push_later.py" "$file" 8000000) || return 1
     ! file_of again live.m3u8 | grep -x '#EXT-X-DISCONTINUITY'
 }
 
