@@ -33,10 +33,18 @@ def encode(run):
         time.sleep(max(0, start + FRAGMENT * (number + 1) - time.monotonic()))
 
 
-def free_port():
-    with socket.socket() as it:
-        it.bind(("127.0.0.1", 0))
-        return it.getsockname()[1]
+def free_ports(count):
+    """Returns `count` ports that the system gives nobody by itself, so that they stay free while the server is down."""
+    ports = set()
+    while len(ports) < count:
+        port = random.randrange(20000, 32000)
+        with socket.socket() as it:
+            try:
+                it.bind(("127.0.0.1", port))
+                ports.add(port)
+            except OSError:
+                pass
+    return sorted(ports)
 
 
 class Player(threading.Thread):
@@ -91,7 +99,7 @@ class Chain:
 
     def __init__(self, program, folder):
         self.program, self.folder, self.runs, self.seen, self.started, self.players = program, folder, 0, {}, {}, []
-        self.ports = free_port(), free_port()
+        self.ports = free_ports(2)
         (folder / "settings").write_text(
             f"listen 127.0.0.1:{self.ports[0]}\npublish 127.0.0.1:{self.ports[1]}\nworkers 16\nrecord {folder}/record\n"
             "channel cam target=2 part=300000 skip=12 window=60 renditions=hi first=0 start=0\n"
