@@ -1,8 +1,8 @@
 /* load present PORT CONNECTIONS SECONDS
    load media PORT CONNECTIONS SECONDS FILE LENGTH
-   load held PORT PUBLISH_PORT WAITING ROUNDS
+   load held PORT PUBLISH_PORT WAITING ROUNDS PROCESS
 
-   A load for `llhls serve` and for bench/yardstick.c, on loopback: channel `cam`, rendition `hi`, parts of a second, four to a segment.
+   A load for `llhls serve`, bench/yardstick.c and bench/held.c, on loopback: channel `cam`, rendition `hi`, parts of a second, four to a segment.
 
    present: CONNECTIONS kept connections, each of which asks for the playlist again as soon as its answer is whole. Half of the processors ask, each
    for its share of the connections, so that it is the server that is measured. It prints the answers per second, and the 50th and the 99th percentile
@@ -10,263 +10,24 @@
 
    media: the same with FILE in the playlist's folder, whose answer has LENGTH bytes: 0, 1, 2 .. 250, and from 0 on again.
 
-   held: in each round WAITING kept connections ask for the next part. Some milliseconds after all requests are written, it publishes the
-   part. It prints the milliseconds from there to the first, the median and the last whole answer, and at the end, after the word `median`, the
-   medians of the rounds.
+   held: in each round WAITING kept connections ask for the next part, each thread for its share of them as above. Some milliseconds after all requests
+   are written, the part is published. It prints the milliseconds from there to the first, the median and the last whole answer, and to the publisher's
+   `ok`; and at the end, after the word `median`, the medians of the rounds and, of the server's PROCESS: the microseconds of processor time for an
+   answer, from the first connection on; the kB of memory for each request that waits, in the last round; the number of threads then; and the most
+   memory in kB.
 
-   Each answer is checked: status 200, as many bytes as it announces, a playlist, or each byte of the media; of a held one also that it lists the part, and that all are equal.
-   The first wrong answer ends the program with a message and status 1; so do 20 seconds in which nothing comes. */
-#include <arpa/inet.h>
-#include <errno.h>
-#include <fcntl.h>
-#include <netinet/tcp.h>
+   Each answer is checked: status 200, as many bytes as it announces, a playlist, or each byte of the media; of a held one also that it comes after its
+   part and lists it, and that all are equal. The first wrong answer ends the program with a message and status 1; so do 20 seconds in which nothing
+   comes, and more connections than `ulimit -H -n` allows. */
+#define _GNU_SOURCE
 #include <pthread.h>
 #include <signal.h>
-#include <stdarg.h>
-#include <stdio.h>
-#include <stdlib.h>
-#include <string.h>
-#include <sys/epoll.h>
 #include <sys/resource.h>
-#include <sys/socket.h>
-#include <time.h>
-#include <unistd.h>
 
-#define FOLDER "/cam/hi/"
-#define PATH FOLDER "live.m3u8"
-#define PERIOD 251      /* of the bytes of media */
-#define PIECE (1 << 18) /* the largest read of these */
+#include "peers.h"
+
 #define PARTS_OF_A_SEGMENT 4
-#define PATIENCE_MS 20000
-
-struct peer {
-    int socket;
-    int waits;      /* its answer isn't whole yet */
-    double asked;   /* when it asked, in microseconds */
-    char *text;     /* what came of its answer so far, and a 0 */
-    size_t length, room;
-    size_t head;    /* bytes of its head with the empty line, 0 while that isn't whole */
-    size_t body;    /* bytes that the head announces */
-};
-
-static __thread int events_of_all;   /* the epoll of a thread */
-static char request[200];
-static size_t request_length;
-static size_t media_length;
-static char media[PIECE + PERIOD];
-
-static void fail(const char *form, ...)
-{
-    va_list words;
-
-    va_start(words, form);
-    fputs("load: ", stderr);
-    vfprintf(stderr, form, words);
-    fputc('\n', stderr);
-    va_end(words);
-    exit(1);
-}
-
-static double now(void)
-{
-    struct timespec t;
-
-    clock_gettime(CLOCK_MONOTONIC, &t);
-    return t.tv_sec * 1e6 + t.tv_nsec / 1e3;
-}
-
-static int in_order(const void *a, const void *b)
-{
-    double x = *(const double *)a, y = *(const double *)b;
-
-    return (x > y) - (x < y);
-}
-
-/* Returns the value that this share of the sorted values doesn't exceed. */
-static double percentile(const double *sorted, size_t count, double share)
-{
-    size_t place = (size_t)(share * (double)count);
-
-    return sorted[place < count ? place : count - 1];
-}
-
-static double median(double *values, size_t count)
-{
-    qsort(values, count, sizeof *values, in_order);
-    return count % 2 ? values[count / 2] : (values[count / 2 - 1] + values[count / 2]) / 2;
-}
-
-/* Returns a connection to this port, on which a call that can't go on waits at most PATIENCE_MS. */
-static int connection(int port)
-{
-    struct sockaddr_in to = { .sin_family = AF_INET, .sin_port = htons((unsigned short)port), .sin_addr.s_addr = htonl(INADDR_LOOPBACK) };
-    struct timeval patience = { .tv_sec = PATIENCE_MS / 1000 };
-    int one = 1, s = socket(AF_INET, SOCK_STREAM, 0);
-
-    if (s < 0)
-        fail("no socket: %s", strerror(errno));
-    setsockopt(s, SOL_SOCKET, SO_SNDTIMEO, &patience, sizeof patience);
-    setsockopt(s, SOL_SOCKET, SO_RCVTIMEO, &patience, sizeof patience);
-    setsockopt(s, IPPROTO_TCP, TCP_NODELAY, &one, sizeof one);
-    if (connect(s, (struct sockaddr *)&to, sizeof to) != 0)
-        fail("no connection to port %d: %s", port, strerror(errno));
-    return s;
-}
-
-static struct peer *connect_all(int port, int count)
-{
-    struct peer *peers = calloc((size_t)count, sizeof *peers);
-    int i;
-
-    events_of_all = epoll_create1(0);
-    if (!peers || events_of_all < 0)
-        fail("no memory");
-    for (i = 0; i < count; i++) {
-        struct epoll_event event = { .events = EPOLLIN, .data.ptr = &peers[i] };
-        peers[i].socket = connection(port);
-        if (epoll_ctl(events_of_all, EPOLL_CTL_ADD, peers[i].socket, &event) != 0)
-            fail("epoll: %s", strerror(errno));
-    }
-    return peers;
-}
-
-static void write_all(int s, const char *text, size_t length)
-{
-    while (length > 0) {
-        ssize_t n = send(s, text, length, MSG_NOSIGNAL);
-        if (n <= 0)
-            fail("a write failed: %s", strerror(errno));
-        text += n;
-        length -= (size_t)n;
-    }
-}
-
-static void ask(struct peer *p)
-{
-    p->length = p->head = p->body = 0;
-    p->waits = 1;
-    p->asked = now();
-    write_all(p->socket, request, request_length);
-}
-
-/* Reads the head once it is whole. */
-static void read_head(struct peer *p)
-{
-    static const char status[] = "HTTP/1.1 200 OK\r\n", field[] = "\r\nContent-Length: ";
-    char *end = strstr(p->text, "\r\n\r\n"), *length;
-
-    if (!end)
-        return;
-    if (strncmp(p->text, status, sizeof status - 1) != 0)
-        fail("another status: %.60s", p->text);
-    length = strstr(p->text, field);
-    if (!length || length > end)
-        fail("no length in %.200s", p->text);
-    p->head = (size_t)(end + 4 - p->text);
-    p->body = strtoul(length + sizeof field - 1, NULL, 10);
-}
-
-/* Reads what came of an answer, at most `most` bytes. Returns how many bytes these are. */
-static size_t receive(struct peer *p, char *to, size_t most)
-{
-    ssize_t n = recv(p->socket, to, most, MSG_DONTWAIT);
-
-    if (n < 0 && (errno == EAGAIN || errno == EINTR))
-        return 0;
-    if (n < 0)
-        fail("a read failed: %s", strerror(errno));
-    if (n == 0)
-        fail("a connection was closed after %zu bytes of an answer", p->length);
-    if (!p->waits)
-        fail("an answer without a request");
-    return (size_t)n;
-}
-
-/* Makes room for more of its text. */
-static void make_room(struct peer *p)
-{
-    if (p->room - p->length < 4096) {
-        p->room = 2 * p->room + 8192;
-        p->text = realloc(p->text, p->room);
-        if (!p->text)
-            fail("no memory");
-    }
-}
-
-/* Takes what came. Returns whether the answer is whole now. */
-static int take(struct peer *p)
-{
-    size_t n;
-
-    make_room(p);
-    n = receive(p, p->text + p->length, p->room - p->length - 1);
-    if (n == 0)
-        return 0;
-    p->length += n;
-    p->text[p->length] = 0;
-    if (p->head == 0)
-        read_head(p);
-    if (p->head == 0 || p->length < p->head + p->body)
-        return 0;
-    if (p->length > p->head + p->body)
-        fail("%zu bytes too many", p->length - p->head - p->body);
-    if (strncmp(p->text + p->head, "#EXTM3U\n", 8) != 0 || p->text[p->length - 1] != '\n')
-        fail("a body that is no playlist");
-    p->waits = 0;
-    return 1;
-}
-
-/* Checks that these bytes are those of the media from a place on. */
-static void compare_media(const char *bytes, size_t length, size_t from)
-{
-    if (from + length > media_length || memcmp(bytes, media + from % PERIOD, length) != 0)
-        fail("other media in the %zu bytes from %zu on", length, from);
-}
-
-/* Does the same for an answer with media, of which only the head is kept, with what came with it. */
-static int take_media(struct peer *p)
-{
-    static __thread char bytes[PIECE];
-    size_t n;
-
-    if (p->head == 0) {
-        make_room(p);
-        n = receive(p, p->text + p->length, 4095);
-        if (n == 0)
-            return 0;
-        p->length += n;
-        p->text[p->length] = 0;
-        read_head(p);
-        if (p->head == 0)
-            return 0;
-        if (p->body != media_length)
-            fail("%zu bytes, and %zu are wanted", p->body, media_length);
-        compare_media(p->text + p->head, p->length - p->head, 0);
-    } else {
-        n = receive(p, bytes, sizeof bytes);
-        if (n == 0)
-            return 0;
-        compare_media(bytes, n, p->length - p->head);
-        p->length += n;
-    }
-    if (p->length < p->head + p->body)
-        return 0;
-    p->waits = 0;
-    return 1;
-}
-
-/* Waits for events. Returns how many there are, at least one. */
-static int some_events(struct epoll_event *events, int most)
-{
-    int count;
-
-    do
-        count = epoll_wait(events_of_all, events, most, PATIENCE_MS);
-    while (count < 0 && errno == EINTR);
-    if (count <= 0)
-        fail("nothing came for %d seconds", PATIENCE_MS / 1000);
-    return count;
-}
+#define MOST_THREADS 64
 
 /* The connections of one thread, and its results: the times from request to whole answer, and the answers per second. */
 struct share {
@@ -294,7 +55,7 @@ static void *ask_on(void *given)
 {
     struct share *s = given;
     struct epoll_event events[512];
-    struct peer *peers = connect_all(s->port, s->connections);
+    struct peer *peers = connect_all(s->port, 0, s->connections);
     double begin = 0, at = 0;
     int i, found, had = 0;
 
@@ -318,17 +79,23 @@ static void *ask_on(void *given)
     return NULL;
 }
 
+/* Returns how many threads these connections are shared out to: half of the processors. */
+static int threads_for(int connections)
+{
+    int count = (int)sysconf(_SC_NPROCESSORS_ONLN) / 2;
+
+    count = count < 1 ? 1 : count > MOST_THREADS ? MOST_THREADS : count;
+    return count < connections ? count : connections;
+}
+
 /* Shares out the connections, and prints the results of all of them. */
 static void ask_all(int port, int connections, double seconds, int (*taken)(struct peer *))
 {
-    static struct share shares[64];
+    static struct share shares[MOST_THREADS];
     struct share all = { .rate = 0 };
-    int count = (int)sysconf(_SC_NPROCESSORS_ONLN) / 2, i;
+    int count = threads_for(connections), i;
     size_t n;
 
-    count = count < 1 ? 1 : count > 64 ? 64 : count;
-    if (count > connections)
-        count = connections;
     for (i = 0; i < count; i++) {
         shares[i] = (struct share){ .port = port, .connections = (connections + i) / count, .seconds = seconds, .taken = taken };
         if (pthread_create(&shares[i].thread, NULL, ask_on, &shares[i]) != 0)
@@ -360,7 +127,7 @@ static void set_media(const char *file, size_t length)
 static void next_part(int port, long *segment, long *part)
 {
     static const char hint[] = "#EXT-X-PRELOAD-HINT:TYPE=PART,URI=\"s";
-    struct peer *p = connect_all(port, 1);
+    struct peer *p = connect_all(port, 0, 1);
     struct epoll_event event;
     char *line;
 
@@ -401,72 +168,185 @@ static void read_ok(int publisher)
         fail("the publisher's answer is %.*s", (int)length - 1, line);
 }
 
-/* Checks that all answers have this part, and are equal. */
-static void compare(const struct peer *peers, int count, long segment, long part)
-{
-    char line[60];
-    int i;
+/* What is measured of a server: its processor time in microseconds, and three numbers of its status. */
+struct cost {
+    double time;
+    long resident, peak, threads;
+};
 
-    snprintf(line, sizeof line, ",URI=\"s%ld.%ld.m4s\"", segment, part);
-    if (!strstr(peers[0].text + peers[0].head, line))
-        fail("an answer without part %ld.%ld", segment, part);
-    for (i = 1; i < count; i++)
-        if (peers[i].body != peers[0].body || memcmp(peers[i].text + peers[i].head, peers[0].text + peers[0].head, peers[0].body) != 0)
-            fail("two answers of one part differ");
+/* Returns the number in a line of the status of a process. */
+static long status_of(long process, const char *name)
+{
+    char path[40], line[200];
+    long number = -1;
+    FILE *status;
+
+    snprintf(path, sizeof path, "/proc/%ld/status", process);
+    status = fopen(path, "r");
+    while (status && number < 0 && fgets(line, sizeof line, status))
+        if (strncmp(line, name, strlen(name)) == 0)
+            number = atol(line + strlen(name));
+    if (number < 0)
+        fail("process %ld has no %s", process, name);
+    fclose(status);
+    return number;
 }
 
-/* Makes one round, and notes its first, median and last time in milliseconds. */
-static void hold(struct peer *peers, int count, int publisher, long segment, long part, double *times, double *taken)
+static struct cost cost_of(long process)
 {
+    struct timespec t;
+    clockid_t clock;
+
+    if (clock_getcpuclockid((pid_t)process, &clock) != 0 || clock_gettime(clock, &t) != 0)
+        fail("process %ld has no time", process);
+    return (struct cost){ t.tv_sec * 1e6 + t.tv_nsec / 1e3, status_of(process, "VmRSS:"), status_of(process, "VmHWM:"), status_of(process, "Threads:") };
+}
+
+/* The connections of one thread that wait for parts, from the number `from` on. */
+struct waiting {
+    pthread_t thread;
+    int port, from, count, rounds;
+    struct peer *peers;
+    double *times;      /* when their answers were whole, those of a round in the order in which they came */
+};
+
+/* All threads are here once they have asked, once they have all answers, and once a further round can begin. */
+static pthread_barrier_t stage;
+
+static void *ask_and_wait(void *given)
+{
+    struct waiting *w = given;
     struct epoll_event events[512];
-    struct timespec pause = { .tv_nsec = (50 + count / 20) % 1000 * 1000000L };
+    int i, found, whole;
+
+    w->peers = connect_all(w->port, w->from, w->count);
+    for (; w->rounds > 0; w->rounds--) {
+        pthread_barrier_wait(&stage);
+        for (i = 0; i < w->count; i++)
+            ask(&w->peers[i]);
+        pthread_barrier_wait(&stage);
+        for (whole = 0; whole < w->count;) {
+            found = some_events(events, 512);
+            for (i = 0; i < found; i++)
+                if (take(events[i].data.ptr))
+                    w->times[whole++] = now();
+        }
+        pthread_barrier_wait(&stage);
+    }
+    return NULL;
+}
+
+/* All connections that wait, and what they wait for. */
+struct crowd {
+    struct waiting each[MOST_THREADS];
+    int threads, count, publisher;
+    double *times;
+    long segment, part;
+};
+
+/* Checks that all answers have the part that was waited for, and are equal. */
+static void compare(const struct crowd *c)
+{
+    const struct peer *first = c->each[0].peers;
+    char line[60];
+    int i, n;
+
+    snprintf(line, sizeof line, ",URI=\"s%ld.%ld.m4s\"", c->segment, c->part);
+    if (!strstr(first->text + first->head, line))
+        fail("an answer without part %ld.%ld", c->segment, c->part);
+    for (n = 0; n < c->threads; n++)
+        for (i = 0; i < c->each[n].count; i++) {
+            const struct peer *p = &c->each[n].peers[i];
+            if (p->body != first->body || memcmp(p->text + p->head, first->text + first->head, first->body) != 0)
+                fail("two answers of one part differ");
+        }
+}
+
+/* Makes one round, and notes the milliseconds from the part to the first, the median and the last answer, and to the publisher's. Returns what the
+   server of this process costs while all wait. */
+static struct cost hold(struct crowd *c, long process, double *taken)
+{
+    int pause_ms = 50 + c->count / 20;
+    struct timespec pause = { .tv_sec = pause_ms / 1000, .tv_nsec = pause_ms % 1000 * 1000000L };
+    struct cost cost;
     double published;
-    int i, found, whole = 0;
 
     request_length = (size_t)snprintf(request, sizeof request,
-        "GET " PATH "?_HLS_msn=%ld&_HLS_part=%ld HTTP/1.1\r\nHost: a\r\n\r\n", segment, part);
-    for (i = 0; i < count; i++)
-        ask(&peers[i]);
+        "GET " PATH "?_HLS_msn=%ld&_HLS_part=%ld HTTP/1.1\r\nHost: a\r\n\r\n", c->segment, c->part);
+    pthread_barrier_wait(&stage);
+    pthread_barrier_wait(&stage);
     nanosleep(&pause, NULL);
-    if (epoll_wait(events_of_all, events, 512, 0) > 0)
-        fail("an answer before its part");
+    cost = cost_of(process);
     published = now();
-    publish(publisher, part);
-    while (whole < count) {
-        found = some_events(events, 512);
-        for (i = 0; i < found; i++)
-            if (take(events[i].data.ptr))
-                times[whole++] = (now() - published) / 1000;
-    }
-    read_ok(publisher);
-    compare(peers, count, segment, part);
-    taken[0] = times[0];
-    taken[2] = times[count - 1];
-    taken[1] = median(times, (size_t)count);
+    publish(c->publisher, c->part);
+    read_ok(c->publisher);
+    taken[3] = (now() - published) / 1000;
+    pthread_barrier_wait(&stage);
+    compare(c);
+    taken[1] = (median(c->times, (size_t)c->count) - published) / 1000;
+    taken[0] = (c->times[0] - published) / 1000;
+    taken[2] = (c->times[c->count - 1] - published) / 1000;
+    if (taken[0] < 0)
+        fail("an answer before its part");
+    c->part = (c->part + 1) % PARTS_OF_A_SEGMENT;
+    c->segment += c->part == 0;
+    return cost;
 }
 
-static void held(int port, int publish_port, int waiting, int rounds)
+/* Prints the medians of the rounds, each of which has four numbers of `taken`. */
+static void print_medians(const double *taken, int rounds)
 {
-    double *times = calloc((size_t)waiting, sizeof *times), *all = calloc(3 * (size_t)rounds, sizeof *all), taken[3];
-    long segment, part;
-    struct peer *peers;
-    int round, publisher = connection(publish_port);
+    double column[rounds];
+    int i, k;
 
-    if (!times || !all)
-        fail("no memory");
-    next_part(port, &segment, &part);
-    peers = connect_all(port, waiting);
-    for (round = 0; round < rounds; round++) {
-        hold(peers, waiting, publisher, segment, part, times, taken);
-        printf("%.3f %.3f %.3f\n", taken[0], taken[1], taken[2]);
-        all[round] = taken[0];
-        all[rounds + round] = taken[1];
-        all[2 * rounds + round] = taken[2];
-        part = (part + 1) % PARTS_OF_A_SEGMENT;
-        segment += part == 0;
+    printf("median");
+    for (k = 0; k < 4; k++) {
+        for (i = 0; i < rounds; i++)
+            column[i] = taken[4 * i + k];
+        printf(" %.3f", median(column, (size_t)rounds));
     }
-    printf("median %.3f %.3f %.3f\n", median(all, (size_t)rounds), median(all + rounds, (size_t)rounds),
-        median(all + 2 * rounds, (size_t)rounds));
+}
+
+/* Has threads connect, each for its share. */
+static void begin_waiting(struct crowd *c, int port, int rounds)
+{
+    int i, from = 0;
+
+    c->threads = threads_for(c->count);
+    c->times = calloc((size_t)c->count, sizeof *c->times);
+    if (!c->times)
+        fail("no memory");
+    pthread_barrier_init(&stage, NULL, (unsigned)c->threads + 1);
+    for (i = 0; i < c->threads; i++) {
+        struct waiting *w = &c->each[i];
+        *w = (struct waiting){ .port = port, .from = from, .count = (c->count + i) / c->threads, .rounds = rounds, .times = c->times + from };
+        from += w->count;
+        if (pthread_create(&w->thread, NULL, ask_and_wait, w) != 0)
+            fail("no thread");
+    }
+}
+
+static void held(int port, int publish_port, int waiting, int rounds, long process)
+{
+    static struct crowd crowd;
+    struct cost before, cost, after;
+    double taken[4 * rounds];
+    int round;
+
+    crowd.count = waiting;
+    crowd.publisher = connection(publish_port, 0);
+    next_part(port, &crowd.segment, &crowd.part);
+    before = cost_of(process);
+    begin_waiting(&crowd, port, rounds);
+    for (round = 0; round < rounds; round++) {
+        double *of = &taken[4 * round];
+        cost = hold(&crowd, process, of);
+        printf("%.3f %.3f %.3f %.3f\n", of[0], of[1], of[2], of[3]);
+    }
+    after = cost_of(process);
+    print_medians(taken, rounds);
+    printf(" %.2f %.3f %ld %ld\n", (after.time - before.time) / waiting / rounds, (double)(cost.resident - before.resident) / waiting, cost.threads,
+        after.peak);
 }
 
 int main(int count, char **words)
@@ -484,10 +364,11 @@ int main(int count, char **words)
     else if (count == 7 && strcmp(words[1], "media") == 0 && atoi(words[3]) > 0) {
         set_media(words[5], strtoul(words[6], NULL, 10));
         ask_all(atoi(words[2]), atoi(words[3]), atof(words[4]), take_media);
-    } else if (count == 6 && strcmp(words[1], "held") == 0 && atoi(words[4]) > 0 && atoi(words[5]) > 0)
-        held(atoi(words[2]), atoi(words[3]), atoi(words[4]), atoi(words[5]));
+    } else if (count == 7 && strcmp(words[1], "held") == 0 && atoi(words[4]) > 0 && atoi(words[5]) > 0)
+        held(atoi(words[2]), atoi(words[3]), atoi(words[4]), atoi(words[5]), atol(words[6]));
     else {
-        fputs("load present PORT CONNECTIONS SECONDS | load media PORT CONNECTIONS SECONDS FILE LENGTH | load held PORT PUBLISH_PORT WAITING ROUNDS\n", stderr);
+        fputs("load present PORT CONNECTIONS SECONDS | load media PORT CONNECTIONS SECONDS FILE LENGTH | "
+            "load held PORT PUBLISH_PORT WAITING ROUNDS PROCESS\n", stderr);
         return 2;
     }
     return 0;

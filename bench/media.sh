@@ -7,11 +7,11 @@
 #
 # - the same for 400 parts of 1,048,576 bytes, the most that a part can have, without the tenths;
 #
-# - of the program, of bench/yardstick.c, which has the same media in its memory and sends each answer by one writev, and as a ratio: the bytes per
-# second that they send if 1 and 64 kept connections ask for a part of 300,000 bytes, one of 1,000,000, and a segment of four parts with as many; and
-# the processor time, including the kernel's, that the server takes for a gigabyte. They are asked by turns. Numbers are the median of RUNS runs (5 if
-# it isn't set) of LENGTH seconds (1); after it stand the smaller and the larger quartile. If the quartiles of one server are further apart than half
-# its median, it prints "too short to tell" in place of the ratio.
+# - of the program, of bench/yardstick.c, which has the same media in its memory and sends each answer by one writev, of nginx, if it is installed,
+# which sends the same media from files (sendfile), and as a ratio: the bytes per second that they send if 1 and 64 kept connections ask for a part of
+# 300,000 bytes, one of 1,000,000, and a segment of four parts with as many; and the processor time, including the kernel's, that the server takes for
+# an answer. They are asked by turns. Numbers are the median of RUNS runs (5 if it isn't set) of LENGTH seconds (1); after it stand the smaller and the
+# larger quartile. If the quartiles of one server are further apart than half its median, it prints "too short to tell" in place of the ratio.
 #
 # It judges nothing. At least 0.8 of the yardstick is wanted.
 . "$(dirname "${BASH_SOURCE[0]}")/common.sh" || exit 2
@@ -19,7 +19,6 @@ take_program_or_proved "${3-}"
 runs=${RUNS:-5}
 length=${LENGTH:-1}
 names=(program yardstick)
-declare -A player_port
 compile "$here/load.c" -pthread
 compile "$here/yardstick.c" -pthread
 channel='channel cam target=4 part=1000000 skip=24 window=36 renditions=hi first=0 start=0'
@@ -39,20 +38,23 @@ start() {
     python3 "$here/media.py" fill "$publish_port" if:300000 if:1000000 i:250000 -:250000 -:250000 f:250000
 }
 
-# sent NAME CONNECTIONS FILE BYTES: prints of one run the megabytes per second, and the seconds of processor time for a gigabyte.
+# sent NAME CONNECTIONS FILE BYTES: prints of one run the megabytes per second, and the microseconds of processor time for an answer.
 sent() {
     local before line
     before=$(ticks "$1")
     line=$(load media "${player_port[$1]}" "$2" "$length" "$3" "$4")
     echo "$line" | awk -v ticks=$(($(ticks "$1") - before)) -v hertz="$(getconf CLK_TCK)" -v length_s="$length" -v bytes="$4" '{
-        print $1 * bytes / 1e6, ticks * 1e9 / hertz / ($1 * length_s * bytes) }'
+        print $1 * bytes / 1e6, ticks * 1e6 / hertz / ($1 * length_s) }'
 }
 
 grow "${1:-10000}" "${2:-100000}"
 grow 400 1048576 | tail -n 3
 start program "$program"
 start yardstick "$room/yardstick"
-echo "$runs runs each: the program, and the yardstick beside it"
+if start_nginx 'sendfile on;' /cam/hi/s0.0.m4s /cam/hi/s1.0.m4s /cam/hi/s2.m4s; then
+    names+=(nginx)
+fi
+echo "$runs runs each: the program, and others beside it"
 while read -r file bytes told; do
     for connections in 1 64; do
         rm -f "$room"/*.runs
@@ -61,8 +63,8 @@ while read -r file bytes told; do
                 sent "$name" "$connections" "$file" "$bytes" >>"$room/$name.runs"
             done
         done
-        compare "$told, $connections connections" MB/s 1 0
-        compare '    processor time for a gigabyte' s 2 3
+        compare "$told, $connections connections" MB/s 1 0 "${names[@]:1}"
+        compare '    processor time for an answer' us 2 0 "${names[@]:1}"
     done
 done <<END
 s0.0.m4s 300000 a part of 300,000 bytes

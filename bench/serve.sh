@@ -1,37 +1,37 @@
 #!/usr/bin/env bash
-# serve.sh [PROGRAM]: puts one load on `llhls serve` (or `PROGRAM serve`) and on bench/yardstick.c, a plain server with a thread for each connection,
-# both on loopback and both after the same 44 parts, by turns. It prints, of each and as a ratio,
+# serve.sh [PROGRAM]: puts one load on `llhls serve` (or `PROGRAM serve`) and on plain servers, by turns, all on loopback and after the same 44 parts:
+# bench/yardstick.c with a thread for each connection, and bench/held.c with a single thread. It prints, of each and as a ratio to the program's,
 #
 # - if 1, 64 and 512 kept connections ask for the present playlist, from half of the processors: the answers per second, the 50th and 99th percentile
 # of the time to an answer, and the processor time, including the kernel's, that the server takes for an answer (which other work on the machine
-# disturbs less);
+# disturbs less). If nginx is installed, it is asked for the same playlist, as a file, by the same connections;
 #
-# - if 100, 1,000 and 4,000 connections wait for a part (fewer if `ulimit -n` doesn't allow as many, and it says so): the milliseconds from its
-# publication to the first, the median and the last answer;
+# - if 100, 1,000, 4,000, 10,000 and 19,000 connections of a server that has just started wait for a part (fewer if `ulimit -n` doesn't allow as many,
+# and it says so; the plain threads up to 4,000): the milliseconds from its publication to the first, the median and the last answer, and until the
+# publisher has its `ok`; the processor time for an answer, with what accepting the connection and reading the request take; how much memory the
+# server has more than before for each request that waits, and the most in all; and how many threads it has then.
 #
-# and the peak memory of both. The program has 4,096 workers, the yardstick a thread for each of its connections. If nginx is installed, it is asked
-# for the same playlist, as a file, by the same connections.
-#
-# Numbers are the median of RUNS runs (5 if it isn't set), of LENGTH seconds (1) or of 5 parts each; after it stand the smaller and the larger
-# quartile. If the quartiles of one server are further apart than half its median, it prints "too short to tell" in place of the ratio. It judges
-# nothing.
+# The program has `workers 4096`. Numbers are the median of RUNS runs (5 if it isn't set), of LENGTH seconds (1) or of 5 parts each; after it stand the
+# smaller and the larger quartile. If the quartiles of one server are further apart than half its median, it prints "too short to tell" in place of the
+# ratio. It judges nothing.
 . "$(dirname "${BASH_SOURCE[0]}")/common.sh" || exit 2
 take_program_or_proved "${1-}"
 runs=${RUNS:-5}
 length=${LENGTH:-1}
 parts=44
-names=(program yardstick)
-asked=("${names[@]}")
-declare -A player_port publisher_port
+asked=(program yardstick)
+declare -A publisher_port file
 compile "$here/load.c" -pthread
 compile "$here/yardstick.c" -pthread
+compile "$here/held.c"
+file=([program]=$program [yardstick]=$room/yardstick [held]=$room/held)
 ulimit -S -n "$(ulimit -H -n)"
 
-# start NAME FILE: starts a server, waits until it is up, and publishes to it.
+# start NAME: starts a server, waits until it is up, and publishes to it.
 start() {
     local number answer
     log=$room/$1.log
-    serve "$2" 'workers 4096' 'channel cam target=4 part=1000000 skip=24 window=36 renditions=hi first=0 start=0' >&2
+    serve "${file[$1]}" 'workers 4096' 'channel cam target=4 part=1000000 skip=24 window=36 renditions=hi first=0 start=0' >&2
     player_port[$1]=$port publisher_port[$1]=$publish_port process[$1]=$server
     exec {publisher}<>"/dev/tcp/127.0.0.1/$publish_port"
     for ((number = 0; number < parts; number++)); do
@@ -41,44 +41,10 @@ start() {
         *) echo 'cam part hi 1000000 -' ;;
         esac >&"$publisher"
         if ! read -r -t 10 answer <&"$publisher" || [ "$answer" != "ok $((number + 1))" ]; then
-            wrong "$2 answers part $number by '$answer'"
+            wrong "$1 answers part $number by '$answer'"
         fi
     done
     exec {publisher}>&-
-}
-
-# start_nginx: starts nginx, which gives the present playlist as a file, if it is installed.
-start_nginx() {
-    local target=/cam/hi/live.m3u8 tries
-    if ! command -v nginx >/dev/null; then
-        echo 'nginx is not installed: nothing is measured of it'
-        return
-    fi
-    mkdir -p "$room/files${target%/*}"
-    exec {player}<>"/dev/tcp/127.0.0.1/${player_port[program]}"
-    printf 'GET %s HTTP/1.1\r\nHost: bench\r\nConnection: close\r\n\r\n' "$target" >&"$player"
-    sed $'1,/^\r$/d' <&"$player" >"$room/files$target"
-    exec {player}>&-
-    for ((tries = 0; tries < 20; tries++)); do
-        player_port[nginx]=$((20000 + RANDOM % 10000))
-        cat >"$room/nginx.conf" <<END
-user $(id -un) $(id -gn); daemon off; worker_processes auto; pid $room/nginx.pid; error_log $room/nginx.log;
-events { worker_connections 4096; }
-http {
-    access_log off; keepalive_requests 1000000000; open_file_cache max=16;
-    server { listen 127.0.0.1:${player_port[nginx]}; root $room/files; }
-}
-END
-        nginx -p "$room" -c "$room/nginx.conf" 2>>"$room/nginx.log" &
-        process[nginx]=$!
-        sleep 0.5
-        if kill -0 "${process[nginx]}" 2>/dev/null; then
-            servers+=("${process[nginx]}")
-            asked+=(nginx)
-            return
-        fi
-    done
-    echo "nginx doesn't start: $(tail -n 1 "$room/nginx.log")"
 }
 
 # present NAME CONNECTIONS: prints the line of one run, and the microseconds of processor time for an answer.
@@ -100,41 +66,58 @@ measure_present() {
     done
 }
 
-# measure_held CONNECTIONS: has connections wait for parts at both servers, by turns.
+# measure_held CONNECTIONS NAME..: has connections wait for parts at these servers, by turns.
 measure_held() {
     local run name
     rm -f "$room"/*.runs
     for ((run = 0; run < runs; run++)); do
-        for name in "${names[@]}"; do
-            load held "${player_port[$name]}" "${publisher_port[$name]}" "$1" 5 | sed 's/^median //' >>"$room/$name.runs"
+        for name in "${@:2}"; do
+            start "$name"
+            load held "${player_port[$name]}" "${publisher_port[$name]}" "$1" 5 "${process[$name]}" | sed 's/^median //' >>"$room/$name.runs"
+            stop
         done
     done
 }
 
-start program "$program"
-start yardstick "$room/yardstick"
-start_nginx
-echo "$runs runs each: the program, and the yardstick beside it"
+for name in "${asked[@]}"; do
+    start "$name"
+done
+if start_nginx '' /cam/hi/live.m3u8; then
+    asked+=(nginx)
+fi
+echo "$runs runs each: the program, and others beside it"
 for connections in 1 64 512; do
     measure_present "$connections"
-    for name in "${asked[@]:1}"; do
-        compare "$connections connections" answers/s 1 0 "$name"
-    done
-    compare "    half of the answers within" us 2 0
-    compare "    99 of 100 answers within" us 3 0
-    compare "    processor time for an answer" us 4 1
+    compare "$connections connections" answers/s 1 0 "${asked[@]:1}"
+    compare '    half of the answers within' us 2 0 "${asked[@]:1}"
+    compare '    99 of 100 answers within' us 3 0 "${asked[@]:1}"
+    compare '    processor time for an answer' us 4 1 "${asked[@]:1}"
 done
-most=$(($(ulimit -n) - 100))
-for waiting in 100 1000 4000; do
+stop
+most=$(($(ulimit -n) - 100)) measured=0
+for waiting in 100 1000 4000 10000 19000; do
     if [ "$waiting" -gt "$most" ]; then
         echo "$waiting waiting: ulimit -n allows $most"
+        [ "$most" -gt "$measured" ] || break
         waiting=$most
     fi
-    measure_held "$waiting"
-    compare "$waiting waiting, from the part to the first answer" ms 1 3
-    compare "    to the median answer" ms 2 3
-    compare "    to the last answer" ms 3 3
-done
-for name in "${names[@]}"; do
-    awk -v name="$name" '/^VmHWM:/ { printf "%s: peak memory %.1f MB\n", name, $2 * 1024 / 1e6 }' "/proc/${process[$name]}/status"
+    measured=$waiting
+    others=(held)
+    if [ "$waiting" -le 4000 ]; then
+        others+=(yardstick)
+    fi
+    measure_held "$waiting" program "${others[@]}"
+    echo "$waiting waiting"
+    while read -r column digits unit told; do
+        compare "    $told" "$unit" "$column" "$digits" "${others[@]}"
+    done <<'END'
+1 3 ms from the part to the first answer
+2 3 ms to the median answer
+3 3 ms to the last answer
+4 3 ms to the ok of the publisher
+5 1 us processor time for an answer
+6 2 kB memory for each
+8 0 kB memory in all
+7 0 threads while they wait
+END
 done

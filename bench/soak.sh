@@ -17,7 +17,7 @@ resident() {
 # wait_for_parts: 64 connections wait for a part, again and again, until `room/stop` is there.
 wait_for_parts() {
     while [ ! -e "$room/stop" ]; do
-        timeout 60 "$room/load" held "$port" "$publish_port" 64 4 >/dev/null
+        timeout 60 "$room/load" held "$port" "$publish_port" 64 4 "$server" >/dev/null
     done
 }
 
