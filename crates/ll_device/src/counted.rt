@@ -1,6 +1,7 @@
-//! Readers and writers of std as devices, with counts that only proofs see.
+//! Readers and writers of std as devices, with counts that only proofs see. A call that a signal interrupts is made again.
 ghost use Rattle.std.specs.Prelude.{◌≡◌, ◌+◌};
 
+use crate::again;
 use crate::counts::TwoCounts;
 use crate::device::{Failed, Reader, Writer};
 use std::io::{Read, Write};
@@ -38,7 +39,7 @@ impl<R: Read + Drop, L: Ledger> Reader for CountedReader<R, L> {
     ghost failures = { λ r. r.uses.second };
 
     fn read(&mut self, buf: &mut [u8]) -> Result<usize, Failed> {
-        match self.source.read(buf) {
+        match again::read(&mut self.source, buf) {
             Ok(count) => {
                 self.uses.add_first();
                 Ok(count)
@@ -81,7 +82,7 @@ impl<W: Write + Drop, L: Ledger> Writer for CountedWriter<W, L> {
 
     /// Writes once. A write that takes nothing of a text that isn't empty fails too.
     fn write(&mut self, text: &[u8]) -> Result<usize, Failed> {
-        match self.sink.write(text) {
+        match again::write(&mut self.sink, text) {
             Ok(count) if count > 0 || text.is_empty() => {
                 self.uses.add_first();
                 Ok(count)

@@ -27,13 +27,6 @@ pub trait Link: Writer + Drop {
         ensures steady { Self.failures self.new ≡ Self.failures self.old }
         ensures there { result ≡ false → Self.inward self.new ≡ Self.inward self.old }
         ensures hung_up { result ≡ true → Self.inward self.new ≡ looked_at 0 1 [] (Self.inward self.old) };
-
-    /// Prepares for a long wait: the caller holds a request of this connection, or hands out a record first.
-    fn will_wait(&mut self)
-        ensures unwritten { Self.written self.new ≡ Self.written self.old }
-        ensures steady { Self.failures self.new ≡ Self.failures self.old }
-        ensures unread { Self.inward self.new ≡ Self.inward self.old }
-    {}
 }
 
 /// A connection with reads and writes that don't wait.

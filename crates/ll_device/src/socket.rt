@@ -5,6 +5,7 @@ use crate::device::{Failed, Writer};
 use crate::link::{Link, TryLink};
 use crate::stream;
 use crate::stream::Stream;
+use libc::EINTR;
 use libc::net::POLLRDHUP;
 use libc::types::pollfd;
 use std::io;
@@ -66,13 +67,21 @@ impl Stream for TcpStream {
         self.write_vectored(&both)
     }
 
+    /// Returns whether the system reports one of `events` within `limit` milliseconds; -1 waits forever. If a signal interrupts the wait, it
+    /// begins anew.
     fn is_told(&self, events: i16, limit: i32) -> bool {
         let mut asked = [pollfd {
             fd: self.as_raw_fd(),
             events,
             revents: 0,
         }];
-        libc::net::poll(&mut asked, limit) > 0
+        for _ in 0..u64::MAX {
+            let told = libc::net::poll(&mut asked, limit);
+            if told >= 0 || os::errno() != EINTR {
+                return told > 0;
+            }
+        }
+        false
     }
 }
 

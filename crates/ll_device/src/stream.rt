@@ -1,10 +1,11 @@
 //! Reads and writes of a nonblocking stream. Their contracts speak of its bytes in std's terms, so they hold for every stream whose
-//! bytes std knows.
+//! bytes std knows. A call that a signal interrupts is made again.
 ghost use Rattle.std.specs.Prelude.{◌≡◌, ◌≤◌, ◌++◌, [], IfOk, IfSome, MatchResult, Ok, length};
 ghost use Rattle.std.specs.Io.{WritesAtMost};
 ghost use Rattle.std.specs.Io.KnownBytes.{Keeps, ReadConsumes, WriteAppends};
 ghost use Rattle.ll_device.specs.Tries.{TryAppends, TryConsumes};
 
+use crate::again;
 use crate::device::Failed;
 use libc::net::{POLLIN, POLLOUT};
 use std::io;
@@ -26,7 +27,7 @@ pub(crate) fn receive<R: Read>(stream: &mut R, buf: &mut [u8]) -> Result<Option<
     ensures count { IfOk result (λ done. IfSome done (λ n. n ≤ length buf.new)) }
     ensures bytes { MatchResult result (λ done. TryConsumes (R.remaining stream.old) (R.remaining stream.new) done buf.new) (λ _. Keeps (R.remaining stream.old) (R.remaining stream.new)) }
 {
-    done(stream.read(buf))
+    done(again::read(stream, buf))
 }
 
 /// Writes `text` once, and returns how many bytes of it the stream took, or `None` if it would have to wait. A write that takes nothing
@@ -36,7 +37,7 @@ pub(crate) fn send<W: Write>(stream: &mut W, text: &[u8]) -> Result<Option<usize
     ensures some { IfOk result (λ done. IfSome done (λ n. n ≡ 0 → text.now ≡ [])) }
     ensures bytes { MatchResult result (λ done. TryAppends (W.contents stream.old) (W.contents stream.new) done text.now) (λ _. Keeps (W.contents stream.old) (W.contents stream.new)) }
 {
-    match stream.write(text) {
+    match again::write(stream, text) {
         Ok(0) if !text.is_empty() => Err(Failed),
         call => done(call),
     }
@@ -53,7 +54,7 @@ pub(crate) fn send_two<S: Stream>(
     ensures some { IfOk result (λ done. IfSome done (λ n. n ≡ 0 → first.now ++ second.now ≡ [])) }
     ensures bytes { MatchResult result (λ done. TryAppends (S.contents stream.old) (S.contents stream.new) done (first.now ++ second.now)) (λ _. Keeps (S.contents stream.old) (S.contents stream.new)) }
 {
-    match stream.write_both(first, second) {
+    match again::write_both(stream, first, second) {
         Ok(0) if !(first.is_empty() && second.is_empty()) => Err(Failed),
         call => done(call),
     }

@@ -13,7 +13,7 @@ const PAUSE: u64 = 500;
 
 /// A source of connections to one address.
 #[derive(Drop)]
-pub struct Dial<'a, R> {
+pub struct Connector<'a, R> {
     rt: &'a R,
     address: SocketAddrV4,
     /// How long each connection after the first one is tried.
@@ -22,10 +22,10 @@ pub struct Dial<'a, R> {
     made: bool,
 }
 
-impl<'a, R: Net<Listener = TcpListener, Stream = TcpStream>> Dial<'a, R> {
+impl<'a, R: Net<Listener = TcpListener, Stream = TcpStream>> Connector<'a, R> {
     /// Returns a source that has made no connection yet. Each connection after the first one is tried for `retry`.
-    pub fn new(rt: &'a R, address: SocketAddrV4, retry: Duration) -> Dial<'a, R> {
-        Dial {
+    pub fn new(rt: &'a R, address: SocketAddrV4, retry: Duration) -> Connector<'a, R> {
+        Connector {
             rt,
             address,
             retry,
@@ -42,7 +42,7 @@ impl<'a, R: Net<Listener = TcpListener, Stream = TcpStream>> Dial<'a, R> {
     }
 }
 
-impl<R: Net<Listener = TcpListener, Stream = TcpStream> + Clock> Dial<'_, R> {
+impl<R: Net<Listener = TcpListener, Stream = TcpStream> + Clock> Connector<'_, R> {
     /// Makes a further connection: pauses and tries, again and again, and returns `None` once `retry` has gone by.
     fn connect_again(&self) -> Option<Socket> {
         let start = Instant::now(self.rt).ok()?;
@@ -59,7 +59,7 @@ impl<R: Net<Listener = TcpListener, Stream = TcpStream> + Clock> Dial<'_, R> {
     }
 }
 
-impl<R: Net<Listener = TcpListener, Stream = TcpStream> + Clock> Source for Dial<'_, R> {
+impl<R: Net<Listener = TcpListener, Stream = TcpStream> + Clock> Source for Connector<'_, R> {
     type Peer = Socket;
 
     /// Tries the first connection once, and each later one until `retry` has gone by, with a pause before each attempt.

@@ -23,7 +23,7 @@ fn keep_alive(stream: &TcpStream) {
 
 /// A listening port for connections of one role.
 #[derive(Drop)]
-pub struct Door<'a, R> {
+pub struct Listener<'a, R> {
     rt: &'a R,
     role: Role,
     listener: TcpListener,
@@ -31,16 +31,16 @@ pub struct Door<'a, R> {
     told: bool,
 }
 
-impl<'a, R: Net<Listener = TcpListener, Stream = TcpStream>> Door<'a, R> {
+impl<'a, R: Net<Listener = TcpListener, Stream = TcpStream>> Listener<'a, R> {
     /// Listens at `address`. Fails if the system refuses it.
-    pub fn open(rt: &'a R, address: SocketAddrV4, role: Role) -> Result<Door<'a, R>, Failed> {
+    pub fn open(rt: &'a R, address: SocketAddrV4, role: Role) -> Result<Listener<'a, R>, Failed> {
         let Ok(listener) = TcpListener::bind(rt, address) else {
             return Err(Failed);
         };
         if libc::net::listen(listener.as_raw_fd(), BACKLOG) != 0 {
             return Err(Failed);
         }
-        Ok(Door {
+        Ok(Listener {
             rt,
             role,
             listener,
@@ -76,7 +76,8 @@ impl<'a, R: Net<Listener = TcpListener, Stream = TcpStream>> Door<'a, R> {
     }
 }
 
-impl<R: Net<Listener = TcpListener, Stream = TcpStream> + Eprint + Clock> Source for Door<'_, R> {
+impl<R: Net<Listener = TcpListener, Stream = TcpStream> + Eprint + Clock> Source
+    for Listener<'_, R> {
     type Peer = Socket;
 
     fn next(&mut self) -> Option<Socket> {
