@@ -3,11 +3,20 @@
 record.py load PLAYERS PUBLISHERS FOLDER: publishes on the channels cam and two, by a connection each, while players ask on connections of their own.
 Writes the item lines that were accepted to FOLDER/published.cam and FOLDER/published.two.
 
+record.py stalled PLAYERS PUBLISHERS FOLDER PIPE: the same on the channel cam alone, whose record goes to PIPE. Fills that beforehand, reads nothing of
+it while there are requests, and demands that they are answered at once meanwhile. Writes what the server then writes to FOLDER/drained.cam.
+
+record.py flooded PUBLISHERS FOLDER PIPE LOG: publishes so much while PIPE is full that the record of cam ends, as the server says in LOG. Writes what
+comes of it to FOLDER/drained.cam.
+
 record.py places PROGRAM FILE SEED COUNT: changes one byte of a record at COUNT places, one after another, and has each record checked. The last line is `N passed, M failed`.
 """
 import http.client
+import os
+import pathlib
 import random
 import re
+import select
 import socket
 import subprocess
 import sys
@@ -20,14 +29,18 @@ SEGMENT = 4  # parts
 PLAYERS = 200
 REQUESTS = 10  # of each player
 SECONDS = 30  # for any answer
+STALLED = 13  # seconds: records are handed out every 10
+AT_ONCE = 0.1  # seconds, for 99 of 100 answers
+AT_MOST = 1  # seconds, for the others: a busy machine may stop any thread for a while
 
 
 class Channel:
-    """How many parts a channel has, and whether its publisher goes on."""
+    """How many parts a channel has, and how long its publisher and players waited for each answer."""
 
     def __init__(self, name):
         self.name = name
         self.parts = 0
+        self.waits = []
 
 
 def part(number):
@@ -43,8 +56,10 @@ def publish(port, channel, folder, asking):
     with open(f"{folder}/published.{channel.name}", "w") as published:
         while channel.parts < PARTS or any(player.is_alive() for player in asking):
             line = part(channel.parts)
+            began = time.monotonic()
             link.sendall(f"{channel.name} {line}\n".encode())
             answer = answers.readline().decode()
+            channel.waits.append(time.monotonic() - began)
             channel.parts += 1
             if answer != f"ok {channel.parts}\n":
                 raise RuntimeError(f"part {channel.parts} of {channel.name} is answered {answer!r}")
@@ -86,20 +101,90 @@ def ask(port, channels, seed):
         link.getresponse().read()
 
 
-def load(players_port, publishers_port, folder):
-    """Runs publishers and players at once. A fault in any of them ends it with status 1."""
+def run(threads):
+    """Runs threads side by side. A fault in any of them results in status 1."""
     wrong = []
     threading.excepthook = lambda failed: wrong.append(failed.exc_value)
-    channels = [Channel(name) for name in CHANNELS]
-    players = [threading.Thread(target=ask, args=(players_port, channels, seed)) for seed in range(PLAYERS)]
-    publishers = [threading.Thread(target=publish, args=(publishers_port, channel, folder, players)) for channel in channels]
-    for thread in players + publishers:
+    for thread in threads:
         thread.start()
-    for thread in players + publishers:
+    for thread in threads:
         thread.join()
     for error in wrong:
         print(error)
     return 1 if wrong else 0
+
+
+def load(players_port, publishers_port, folder):
+    """Runs publishers and players at once."""
+    channels = [Channel(name) for name in CHANNELS]
+    players = [threading.Thread(target=ask, args=(players_port, channels, seed)) for seed in range(PLAYERS)]
+    publishers = [threading.Thread(target=publish, args=(publishers_port, channel, folder, players)) for channel in channels]
+    return run(players + publishers)
+
+
+def ask_on(port, channel):
+    """Asks for a channel's playlist again and again, until a record was to be handed out."""
+    link = http.client.HTTPConnection("127.0.0.1", port, timeout=SECONDS)
+    end = time.monotonic() + STALLED
+    while time.monotonic() < end:
+        began = time.monotonic()
+        link.request("GET", f"/{channel.name}/hi/live.m3u8")
+        link.getresponse().read()
+        channel.waits.append(time.monotonic() - began)
+        time.sleep(0.01)
+
+
+def fill(path):
+    """Returns a pipe that is full, and how many bytes are in it."""
+    pipe = os.open(path, os.O_RDWR | os.O_NONBLOCK)
+    count = 0
+    try:
+        while True:
+            count += os.write(pipe, bytes(4096))
+    except BlockingIOError:
+        return pipe, count
+
+
+def drain(pipe, count, path, is_all):
+    """Writes what comes from a pipe after its first `count` bytes to the file `path`, until that `is_all`, or nothing came although records were handed
+    out."""
+    while count > 0:
+        count -= len(os.read(pipe, count))
+    came = bytearray()
+    while not is_all(came) and select.select([pipe], [], [], STALLED)[0]:
+        came += os.read(pipe, 1 << 20)
+    with open(path, "wb") as record:
+        record.write(came)
+
+
+def stalled(players_port, publishers_port, folder, path):
+    """Publishes and asks while nothing of a record can be written."""
+    pipe, count = fill(path)
+    channel = Channel("cam")
+    players = [threading.Thread(target=ask_on, args=(players_port, channel)) for _ in range(4)]
+    if run(players + [threading.Thread(target=publish, args=(publishers_port, channel, folder, players))]):
+        return 1
+    slow = sum(wait > AT_ONCE for wait in channel.waits)
+    print(f"{slow} of {len(channel.waits)} answers took longer than {AT_ONCE} s, the slowest {max(channel.waits)} s")
+    drain(pipe, count, f"{folder}/drained.cam", lambda came: came.endswith(b"\n#END\n") and came.count(b"\nP ") == channel.parts)
+    return 1 if slow * 100 > len(channel.waits) or max(channel.waits) > AT_MOST else 0
+
+
+def flooded(port, folder, path, log):
+    """Publishes large date ranges, and takes them away again, while nothing of a record can be written."""
+    pipe, count = fill(path)
+    link = socket.create_connection(("127.0.0.1", port), timeout=SECONDS)
+    answers = link.makefile("rb")
+    attributes = f'START-DATE="2026-09-21T14:14:20.000Z",X-A="{"x" * 3900}"'
+    number = 0
+    while b"llhls: record: cam: " not in pathlib.Path(log).read_bytes():
+        lines = [f'cam range hi ID="{each}",{attributes}\ncam unrange hi {each}\n' for each in range(number, number + 500)]
+        number += len(lines)
+        link.sendall("".join(lines).encode())
+        if not all(answers.readline().startswith(b"ok ") for _ in range(2 * len(lines))):
+            raise RuntimeError("a date range is refused")
+    drain(pipe, count, f"{folder}/drained.cam", lambda came: False)
+    return 0
 
 
 def check(program, file):
@@ -133,6 +218,10 @@ def places(program, file, seed, count):
 def main(words):
     if words[0] == "load":
         return load(int(words[1]), int(words[2]), words[3])
+    if words[0] == "stalled":
+        return stalled(int(words[1]), int(words[2]), words[3], words[4])
+    if words[0] == "flooded":
+        return flooded(int(words[1]), words[2], words[3], words[4])
     return places(words[1], words[2], int(words[3]), int(words[4]))
 
 

@@ -2,7 +2,7 @@
 # record.sh PROGRAM: tests `llhls serve` with a line `record` in its settings, on real sockets. Two channels are published, asked and waited for at
 # once; then `llhls check` has to find their records right, and each has the items that were published. The server is started again with the same
 # files, each of which has a chain more then. A byte of one is changed at a thousand places: `check` has to find that, if the byte means anything.
-# Then come files that can't be opened or written. The last line is `N passed, M failed`.
+# Then come files that can't be opened or written, and a disk that stands still. The last line is `N passed, M failed`.
 . "$(dirname "${BASH_SOURCE[0]}")/server.sh" || exit 2
 take_program "$1"
 # Within how many seconds the server hands out each record, with some to spare.
@@ -117,6 +117,27 @@ P $part 3
 P $part 0" ] || { echo "$items"; return 1; }
 }
 
+# The record of `cam` goes to a pipe, which is full at first, and which nobody reads for a while: as to a disk that stands still. Publishers and
+# players of `cam` are answered at once meanwhile, and its record is whole in the end.
+disk_that_stalls() {
+    local pipe
+    mkfifo "$room/stalled.cam" && exec {pipe}<>"$room/stalled.cam" && start "$room/stalled" cam || return 1
+    python3 "$here/record.py" stalled "$port" "$publish_port" "$room" "$room/stalled.cam" || return 1
+    exec {pipe}>&-
+    told cam 0 && is_right "$room/drained.cam" && items "$room/drained.cam" | cmp - "$room/published.cam"
+}
+
+# The same, but so much is published that the record of `cam` ends, which is said once. What came before that is written in the end, and nothing after
+# it; `cam` is served all the while.
+disk_that_stalls_too_long() {
+    local pipe
+    mkfifo "$room/flooded.cam" && exec {pipe}<>"$room/flooded.cam" && start "$room/flooded" cam || return 1
+    python3 "$here/record.py" flooded "$publish_port" "$room" "$room/flooded.cam" "$log" || return 1
+    exec {pipe}>&-
+    told cam 1 && is_served cam && is_right "$room/drained.cam" || return 1
+    [ "$(wc -c <"$room/drained.cam")" -ge 130000000 ] || { echo "the record ended after $(wc -c <"$room/drained.cam") bytes"; return 1; }
+}
+
 no_folder() {
     start "$room/none/kept" cam two || return 1
     told cam 1 && told two 1 && publish "cam $part" 'ok 1' && is_served cam
@@ -131,5 +152,7 @@ add $? "$room/said" places
 head -c 5000 "$room/said" | grep -v ' passed, '
 try files_that_fail
 try tells_lengths
+try disk_that_stalls
+try disk_that_stalls_too_long
 try no_folder
 told_all

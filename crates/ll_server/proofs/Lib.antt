@@ -1,3 +1,4 @@
 pub mod ChannelLemmas
 pub mod ConfigLemmas
 pub mod LineLemmas
+pub mod QueueLemmas

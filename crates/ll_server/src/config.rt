@@ -15,7 +15,7 @@ use std::net::SocketAddrV4;
 /// The most channels of a server.
 pub const CHANNELS: usize = 1_024;
 
-/// The most workers of each role.
+/// The most workers.
 const WORKERS: u64 = 4_096;
 
 /// The settings of a server: the lines of its settings file, in this order.
@@ -25,7 +25,7 @@ pub struct Config {
     pub players: SocketAddrV4,
     /// `publish ADDRESS:PORT`: where publishers connect.
     pub publishers: SocketAddrV4,
-    /// `workers N`: how many connections of each role are served at once.
+    /// `workers N`: how many connections of publishers are served at once, and how many threads serve players at most.
     pub workers: Workers,
     /// `record PATH`, which is optional: the path that the names of the records' files begin with.
     pub record: Option<Text>,
@@ -37,10 +37,10 @@ pub struct Config {
     ghost few_channels: { vec_len channels ≤ 1024 },
 }
 
-/// How many connections of each role are served at once.
+/// How many connections of publishers are served at once, and how many threads serve players at most.
 #[derive(Clone, Copy, Drop)]
 pub struct Workers {
-    /// The number of connections of each role.
+    /// The number of either.
     pub count: usize,
     ghost some: { 1 ≤ count },
     ghost few: { count ≤ 4096 },

@@ -1,5 +1,6 @@
 //! Files that a server appends to as it runs.
 use ll_attr::Text;
+use std::fmt::Display;
 use std::fs::{File, OpenOptions};
 use std::io::Write;
 use std::rt::Files;
@@ -11,8 +12,10 @@ pub(crate) struct Journal {
     /// Its name in messages to standard error.
     what: Text,
     file: Option<File>,
-    /// Whether a write has failed.
+    /// Whether no more texts are to come.
     ended: AtomicBool,
+    /// Whether a write has failed.
+    failed: AtomicBool,
 }
 
 impl Journal {
@@ -31,24 +34,37 @@ impl Journal {
         };
         Journal {
             what,
+            ended: AtomicBool::new(file.is_none()),
+            failed: AtomicBool::new(false),
             file,
-            ended: AtomicBool::new(false),
         }
     }
 
-    /// Appends `text` to the file. If that fails, says why on standard error, and nothing more will be written.
+    /// Returns whether no more texts are to come: it was ended, a write has failed, or the file couldn't be opened.
+    pub(crate) fn has_ended(&self) -> bool {
+        self.ended.load(Ordering::SeqCst)
+    }
+
+    /// Ends it, and says `why` on standard error, unless it has ended before. Texts that are on their way can still be appended.
+    pub(crate) fn end<R: Eprint, E: Display>(&self, rt: &R, why: &E) {
+        if !self.ended.swap(true, Ordering::SeqCst) {
+            let what = &self.what;
+            let _ = eprintln!(rt; "llhls: {what}: {why}");
+        }
+    }
+
+    /// Appends `text` to the file. If that fails, ends it, and nothing more will be written.
     pub(crate) fn append<R: Eprint>(&self, rt: &R, text: &[u8]) {
         let Some(file) = &self.file else {
             return;
         };
-        if self.ended.load(Ordering::SeqCst) {
+        if self.failed.load(Ordering::SeqCst) {
             return;
         }
         let mut file = file;
         if let Err(error) = file.write_all(text) {
-            self.ended.store(true, Ordering::SeqCst);
-            let what = &self.what;
-            let _ = eprintln!(rt; "llhls: {what}: {error}");
+            self.failed.store(true, Ordering::SeqCst);
+            self.end(rt, &error);
         }
     }
 }

@@ -10,6 +10,7 @@ mod journal;
 mod lines;
 mod log;
 mod numbers;
+mod queue;
 mod records;
 
 pub use config::{CHANNELS, Config, Workers};
