@@ -1,1 +1,2 @@
 pub mod TotalLemmas
+pub mod RungLemmas

@@ -69,6 +69,13 @@ impl<L: Ledgers> Counted<L> {
         self.channel.ready()
     }
 
+    /// Keeps those of `tickets` whose requests are open and have their reply.
+    pub(crate) fn keep_ready(&self, tickets: &mut Vec<u64>)
+        ensures { tickets.new.items ≡ filter (spec.has_reply self.now.room.slots) tickets.old.items }
+    {
+        self.channel.keep_ready(tickets);
+    }
+
     /// Returns whether this is the channel that the caller knows, and has what the caller has seen.
     pub(crate) fn is_met(&self, known: Known<'_>) -> bool
         ensures { IsTrue result → spec.IsMet self.now known.entry.place known.entry.settings.now known.entry.seen }

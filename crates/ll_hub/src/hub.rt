@@ -3,8 +3,10 @@ ghost use Rattle.std.specs.Prelude.{◌≡◌, ◌+◌, ◌≤◌, [], None, Som
 ghost use Rattle.ll_item.specs.Channels.{channel_of_name};
 ghost use Rattle.ll_hub.specs.Calls as calls;
 ghost use Rattle.ll_hub.specs.Passes.{new_pass};
+ghost use Rattle.ll_hub.specs.Rung.{IsRung, IsRungBy, IsRungFrom, IsRungTo};
 ghost use Rattle.ll_hub_channel.specs.Ledgers.{IsRest, all_parts, blank};
 
+use crate::bell::Bell;
 use crate::claim::Claim;
 use crate::locks::ChannelLocks;
 use crate::pass::Pass;
@@ -134,23 +136,25 @@ impl<L: Ledgers> Hub<L> {
     /// 2. The pass is another hub's: Stranger, or WentBack.
     /// 3. 2^60 publishes of the hub's channels were counted: Short.
     /// 4. The channel's room refuses the item.
-    pub fn publish<R: Wait>(
+    pub fn publish<B: Bell, R: Wait>(
         &self,
         rt: &R,
+        bell: &mut B,
         pass: &mut Pass<L>,
         channel: usize,
         item: Item,
     ) -> Result<Stamped<u64>, HubFault>
         ensures published { IfOk result (λ n. calls.IsPublished self.now channel item pass.old.seen pass.new.seen n) }
         ensures counted { OnOk result ((pass.new.publishes ≡ pass.old.publishes + 1) × (pass.new.asks ≡ pass.old.asks)) }
+        ensures rung { OnOk result (IsRung channel (B.rung bell.old) (B.rung bell.new)) }
         ensures refused { IfErr result (λ f. calls.IsPublishFault self.now channel item pass.old.seen f) }
-        ensures unchanged { OnErr result (pass.new ≡ pass.old) }
+        ensures unchanged { OnErr result ((pass.new ≡ pass.old) × (B.rung bell.new ≡ B.rung bell.old)) }
     {
         let (channel_lock, known) = self.locks.reach(channel, pass.seen(channel))?;
         let mut state = channel_lock.lock(rt);
         let ready = state.ready();
         let count = state.publish(rt, known, item, &self.publishes, &mut pass.counts)?;
-        channel_lock.leave(state, ready);
+        channel_lock.leave(state, ready, bell, channel);
         pass.note(channel, *count.get());
         Ok(count)
     }
@@ -188,24 +192,27 @@ impl<L: Ledgers> Hub<L> {
     /// 3. 2^60 requests of the hub's channels were counted: Short.
     /// 4. Out of memory: Memory.
     /// 5. The channel's room refuses the reading of the clock, or the request.
-    pub fn ask<C: Clock, R: Wait>(
+    pub fn ask<C: Clock, B: Bell, R: Wait>(
         &self,
         rt: &R,
         clock: &C,
+        bell: &mut B,
         pass: &mut Pass<L>,
         channel: usize,
         want: Want,
     ) -> Result<HubAsked, HubFault>
         ensures asked { IfOk result (λ a. calls.IsAskedOf self.now channel want pass.old.seen pass.new.seen a) }
         ensures counted { OnOk result ((pass.new.publishes ≡ pass.old.publishes) × (pass.new.asks ≡ pass.old.asks + 1)) }
+        ensures rung { OnOk result (IsRung channel (B.rung bell.old) (B.rung bell.new)) }
         ensures refused { IfErr result (λ f. calls.IsAskFault (C.shows clock.now) self.now channel pass.old.seen f) }
+        ensures rung_too { IfErr result (λ f. IsRungBy f channel (B.rung bell.old) (B.rung bell.new)) }
         ensures unchanged { OnErr result (pass.new ≡ pass.old) }
     {
         let (channel_lock, known) = self.locks.reach(channel, pass.seen(channel))?;
         let mut state = channel_lock.lock(rt);
         let ready = state.ready();
         let answer = state.ask(rt, known, clock, want, &self.asks, &mut pass.counts);
-        channel_lock.leave(state, ready);
+        channel_lock.leave(state, ready, bell, channel);
         match answer? {
             AtOnce::Now(reply) => {
                 pass.note_reply(channel, reply.get());
@@ -262,6 +269,42 @@ impl<L: Ledgers> Hub<L> {
         }
     }
 
+    /// Returns the reply to a held request if it is there, and else the claim. The claim is spent, even if the hub doesn't hold the request,
+    /// unless it is returned.
+    pub fn collect<R: Wait>(
+        &self,
+        rt: &R,
+        pass: &mut Pass<L>,
+        claim: Claim,
+    ) -> Result<Waited, HubFault>
+        ensures waited { IfOk result (λ w. calls.IsWaited self.now claim pass.old.seen pass.new.seen w) }
+        ensures counts { (pass.new.publishes ≡ pass.old.publishes) × (pass.new.asks ≡ pass.old.asks) }
+        ensures refused { IfErr result (λ f. calls.IsWaitFault self.now claim.channel f) }
+        ensures unchanged { OnErr result (pass.new ≡ pass.old) }
+    {
+        let channel = claim.channel();
+        let entry = claim.spend();
+        let (channel_lock, known) = self.locks.reach(channel, Some(0))?;
+        match channel_lock.collect(rt, known, entry)? {
+            Some(reply) => {
+                pass.note_reply(channel, reply.get());
+                Ok(Waited::Reply(reply))
+            }
+            None => Ok(Waited::Still(Claim::new(channel, entry))),
+        }
+    }
+
+    /// Keeps those of `tickets` that are held requests of the channel at place `channel` and have their reply, so that a caller who holds
+    /// many claims knows which to collect. If there is no such channel, none is kept.
+    pub fn keep_ready<R: Wait>(&self, rt: &R, channel: usize, tickets: &mut Vec<u64>)
+        ensures { slice_get self.now channel ≡ None → tickets.new.items ≡ [] }
+    {
+        match self.locks.reach(channel, Some(0)) {
+            Ok((channel_lock, _)) => channel_lock.keep_ready(rt, tickets),
+            Err(_) => tickets.clear(),
+        }
+    }
+
     /// Closes a held request: it gets no reply. The claim is spent; returns whether the hub held the request.
     pub fn close<R: Wait>(&self, rt: &R, claim: Claim) -> bool
         ensures { slice_get self.now claim.channel ≡ None → result ≡ false }
@@ -275,19 +318,28 @@ impl<L: Ledgers> Hub<L> {
     }
 
     /// Passes a reading of the clock, in milliseconds, to each channel in order, up to the first that refuses it.
-    pub fn tick<R: Wait>(&self, rt: &R, ms: u64) -> Result<(), HubFault>
-        ensures { IfErr result (λ f. calls.IsTickFault self.now ms f) }
+    pub fn tick<B: Bell, R: Wait>(&self, rt: &R, bell: &mut B, ms: u64) -> Result<(), HubFault>
+        ensures refused { IfErr result (λ f. calls.IsTickFault self.now ms f) }
+        ensures rung { OnOk result (IsRungFrom 0 (length self.now) (B.rung bell.old) (B.rung bell.new)) }
     {
-        self.tick_from(rt, 0, ms)
+        self.tick_from(rt, bell, 0, ms)
     }
 
     /// Passes a reading of the clock, in milliseconds, to each channel from place `first` on, in order, up to the first that refuses it.
-    pub fn tick_from<R: Wait>(&self, rt: &R, first: usize, ms: u64) -> Result<(), HubFault>
+    pub fn tick_from<B: Bell, R: Wait>(
+        &self,
+        rt: &R,
+        bell: &mut B,
+        first: usize,
+        ms: u64,
+    ) -> Result<(), HubFault>
         ensures refused { IfErr result (λ f. calls.IsTickFault self.now ms f) }
         ensures from { IfErr result (λ f. calls.IsFrom first f) }
+        ensures rung { OnOk result (first ≤ length self.now → IsRungFrom first (length self.now) (B.rung bell.old) (B.rung bell.new)) }
+        ensures rung_to { IfErr result (λ f. IsRungTo first f (B.rung bell.old) (B.rung bell.new)) }
     {
         for channel in first..self.locks.len() {
-            if let Err(fault) = self.locks.tick(rt, channel, ms) {
+            if let Err(fault) = self.locks.tick(rt, bell, channel, ms) {
                 return Err(HubFault::Room {
                     channel,
                     fault: RoomFault::Clock(fault),
@@ -323,17 +375,7 @@ impl<L: Ledgers> Hub<L> {
         ensures untaken { OnErr result (K.taken sink.new ≡ K.taken sink.old) }
     {
         let (channel_lock, known) = self.locks.reach(channel, Some(0))?;
-        let mut state = channel_lock.lock(rt);
-        channel_lock.set_handing_out(true);
-        let handed = state.rotate_to(known, sink);
-        channel_lock.set_handing_out(false);
-        drop(state);
-        handed
-    }
-
-    /// Returns whether a sink is taking the record of the channel at place `channel`. A call on that channel waits until it has.
-    pub fn is_handing_out(&self, channel: usize) -> bool {
-        self.locks.is_handing_out(channel)
+        channel_lock.lock(rt).rotate_to(known, sink)
     }
 
     /// Closes all held requests, and spends the hub and the passes, even if it fails. The channels have accepted as many items, and were

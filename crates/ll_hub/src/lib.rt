@@ -1,6 +1,7 @@
 //! Many channels, each under its own lock, and what their callers get, whatever other threads call between.
 #![tactic(auto)]
 
+mod bell;
 mod claim;
 mod counted;
 mod hub;
@@ -8,6 +9,7 @@ mod locks;
 mod pass;
 mod totals;
 
+pub use bell::Bell;
 pub use claim::Claim;
 pub use hub::{Hub, HubAsked, Waited};
 pub use ll_hub_channel::{Blanks, Clock, HubFault, Ledgers, Named, RoomFault, Total};

@@ -1,7 +1,10 @@
 //! The channels of a hub, each under its own lock.
-ghost use Rattle.std.specs.Prelude.{◌≡◌, ◌+◌, ◌<◌, ◌≤◌, ◌++◌, ◌∷◌, [], None, Some, IfErr, IfOk, IfSome, IsTrue, MatchOption, OnErr, OnOk, false, length, map, slice_get, sum, vec_capacity, vec_len};
+ghost use Rattle.std.specs.Prelude.{◌≡◌, ◌+◌, ◌-◌, ◌<◌, ◌≤◌, ◌++◌, ◌∷◌, [], None, Some, IfErr, IfOk, IfSome, IsTrue, MatchOption, OnErr, OnOk, false, filter, length, map, slice_get, sum, vec_capacity, vec_len};
 ghost use Rattle.ll_item.specs.Channels.{channel_of_name};
+ghost use Rattle.std.specs.Sync.Mutex.{mutex_guard_value};
 ghost use Rattle.ll_hub.specs.Calls as calls;
+ghost use Rattle.ll_hub.specs.Rung.{IsRung, Rings};
+ghost use Rattle.ll_verdict.specs.Waiting.{is_ready};
 ghost use Rattle.ll_hub_channel.specs.Ledgers.{blank};
 ghost use Rattle.ll_item.specs.Settings.{Configuration};
 ghost use Rattle.ll_hub_channel.specs.Section.{IsAt};
@@ -10,6 +13,7 @@ ghost use Rattle.ll_room.specs.RoomValue.{room_value};
 ghost use Rattle.ll_room.specs.declared.stamped.Stamp.TheVariants as stamp;
 ghost use Rattle.ll_verdict.specs.State.{state_of};
 
+use crate::bell::Bell;
 use crate::counted::Counted;
 use ll_hub_channel::{ChannelCounts, HubFault, Known, Ledgers, Total, Tried};
 use ll_item::{Channels, Settings};
@@ -17,7 +21,7 @@ use ll_room::Stamped;
 use ll_verdict::{ClockFault, Entry, Reply};
 use std::alloc::{AllocError, Global};
 use std::marker::Model;
-use std::sync::atomic::{AtomicBool, AtomicU64, Ordering};
+use std::sync::atomic::{AtomicU64, AtomicUsize, Ordering};
 use std::sync::{Condvar, Mutex, MutexGuard, Wait};
 use std::time::{Clock, Duration, Instant};
 
@@ -32,10 +36,10 @@ const WOKEN: usize = 64;
 pub(crate) struct ChannelLock<L: Ledgers> {
     state: Mutex<Counted<L>>,
     changed: Condvar,
+    /// The number of callers that wait for replies.
+    waiters: AtomicUsize,
     /// The number of times that replies came.
     releases: AtomicU64,
-    /// Whether the record is being handed out: the lock may be held for long.
-    handing_out: AtomicBool,
 }
 
 /// Channels, each under its own lock, found by name and by place.
@@ -154,20 +158,19 @@ impl<L: Ledgers> ChannelLocks<L> {
         ))
     }
 
-    /// Returns whether the record of the channel at place `channel` is being handed out.
-    pub(crate) fn is_handing_out(&self, channel: usize) -> bool {
-        match self.locks.get(channel) {
-            Some(channel_lock) => channel_lock.is_handing_out(),
-            None => false,
-        }
-    }
-
     /// Passes a reading of the clock, in milliseconds, to the channel at place `channel`.
-    pub(crate) fn tick<R: Wait>(&self, rt: &R, channel: usize, ms: u64) -> Result<(), ClockFault>
+    pub(crate) fn tick<B: Bell, R: Wait>(
+        &self,
+        rt: &R,
+        bell: &mut B,
+        channel: usize,
+        ms: u64,
+    ) -> Result<(), ClockFault>
         requires { channel < length self.now }
-        ensures { IfErr result (λ f. IsReadingRefused ms f) }
+        ensures refused { IfErr result (λ f. IsReadingRefused ms f) }
+        ensures rung { IsRung channel (B.rung bell.old) (B.rung bell.new) }
     {
-        self.locks[channel].tick(rt, ms)
+        self.locks[channel].tick(rt, bell, channel, ms)
     }
 
     /// Closes all held requests, adds each channel's total to `found`, and merges their shares into `all`. It takes no memory. Returns
@@ -216,8 +219,8 @@ impl<L: Ledgers> ChannelLock<L> {
         ChannelLock {
             state: Mutex::new(channel),
             changed: Condvar::new(),
+            waiters: AtomicUsize::new(0),
             releases: AtomicU64::new(0),
-            handing_out: AtomicBool::new(false),
         }
     }
 
@@ -231,26 +234,27 @@ impl<L: Ledgers> ChannelLock<L> {
         self.state.lock(rt)
     }
 
-    /// Sets whether the record is being handed out.
-    pub(crate) fn set_handing_out(&self, handing_out: bool) {
-        self.handing_out.store(handing_out, Ordering::SeqCst);
-    }
-
-    /// Returns whether the record is being handed out.
-    fn is_handing_out(&self) -> bool {
-        self.handing_out.load(Ordering::SeqCst)
-    }
-
-    /// Releases the lock. If more replies are there than `ready`, wakes some of those that wait, and they wake the others.
-    pub(crate) fn leave(&self, state: MutexGuard<'_, Counted<L>>, ready: usize) {
+    /// Releases the lock of the channel at place `place`, and rings `bell` for the replies that are there beyond `ready`. If there are any,
+    /// wakes some of those that wait, and they wake the others.
+    pub(crate) fn leave<B: Bell>(
+        &self,
+        state: MutexGuard<'_, Counted<L>>,
+        ready: usize,
+        bell: &mut B,
+        place: usize,
+    )
+        ensures { Rings (B.rung bell.old) (B.rung bell.new) place (length (filter is_ready (mutex_guard_value state.entry).room.slots) - ready) }
+    {
         let more = state.ready().saturating_sub(ready);
         if more > 0 {
             self.releases.fetch_add(1, Ordering::SeqCst);
         }
+        let woken = more.min(WOKEN).min(self.waiters.load(Ordering::SeqCst));
         drop(state);
-        for _ in 0..more.min(WOKEN) {
+        for _ in 0..woken {
             self.changed.notify_one();
         }
+        bell.ring(place, more);
     }
 
     /// Returns whether a waiter that was woken is to wake another: if replies are there that weren't collected, and it has woken none since
@@ -271,15 +275,45 @@ impl<L: Ledgers> ChannelLock<L> {
         }
     }
 
-    /// Passes a reading of the clock to the channel, in milliseconds.
-    fn tick<R: Wait>(&self, rt: &R, ms: u64) -> Result<(), ClockFault>
-        ensures { IfErr result (λ f. IsReadingRefused ms f) }
+    /// Passes a reading of the clock, in milliseconds, to the channel, which is the one at place `place`.
+    fn tick<B: Bell, R: Wait>(
+        &self,
+        rt: &R,
+        bell: &mut B,
+        place: usize,
+        ms: u64,
+    ) -> Result<(), ClockFault>
+        ensures refused { IfErr result (λ f. IsReadingRefused ms f) }
+        ensures rung { IsRung place (B.rung bell.old) (B.rung bell.new) }
     {
         let mut state = self.lock(rt);
         let ready = state.ready();
         let told = state.tick(ms);
-        self.leave(state, ready);
+        self.leave(state, ready, bell, place);
         told
+    }
+
+    /// Keeps those of `tickets` whose requests are open and have their reply.
+    pub(crate) fn keep_ready<R: Wait>(&self, rt: &R, tickets: &mut Vec<u64>) {
+        self.lock(rt).keep_ready(tickets);
+    }
+
+    /// Returns the reply to the held request `entry`; `None` if it isn't there yet.
+    pub(crate) fn collect<R: Wait>(
+        &self,
+        rt: &R,
+        known: Known<'_>,
+        entry: Entry,
+    ) -> Result<Option<Stamped<Reply>>, HubFault>
+        ensures replied { IfOk result (λ o. IfSome o (λ r. (r.room ≡ known.entry.place) × (r.stamp ≡ stamp.Collect entry.ticket))) }
+        ensures decided { IfOk result (λ o. IfSome o (λ r. IsDecided known.entry.settings.now entry r.value)) }
+        ensures stranger { IfErr result (λ f. f ≡ HubFault.Stranger) }
+    {
+        match self.lock(rt).collect(known, entry) {
+            Tried::Got(reply) => Ok(Some(reply)),
+            Tried::Still => Ok(None),
+            Tried::Stranger => Err(HubFault::Stranger),
+        }
     }
 
     /// Waits for the reply to the held request `entry`.
@@ -312,7 +346,9 @@ impl<L: Ledgers> ChannelLock<L> {
             if wakes {
                 self.changed.notify_one();
             }
+            self.waiters.fetch_add(1, Ordering::SeqCst);
             state = self.changed.wait(rt, state);
+            self.waiters.fetch_sub(1, Ordering::SeqCst);
         }
         unreachable!()
     }
@@ -352,7 +388,9 @@ impl<L: Ledgers> ChannelLock<L> {
             let Some(left) = left(rt, start, limit) else {
                 return Ok(None);
             };
+            self.waiters.fetch_add(1, Ordering::SeqCst);
             state = self.changed.wait_timeout(rt, state, left).0;
+            self.waiters.fetch_sub(1, Ordering::SeqCst);
         }
         unreachable!()
     }
@@ -372,8 +410,8 @@ impl<L: Ledgers> ChannelLock<L> {
         let ChannelLock {
             state,
             changed: _,
+            waiters: _,
             releases: _,
-            handing_out: _,
         } = self;
         let channel = state.into_inner();
         *at_home &= is_at(&channel, channels, place);
@@ -385,8 +423,8 @@ impl<L: Ledgers> ChannelLock<L> {
         let ChannelLock {
             state,
             changed: _,
+            waiters: _,
             releases: _,
-            handing_out: _,
         } = self;
         state.into_inner().finish();
     }

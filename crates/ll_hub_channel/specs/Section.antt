@@ -1,5 +1,5 @@
 -- The results of one locked section of a channel, and the channel after it.
-use Rattle.std.specs.Prelude.{◌≡◌, ◌≢◌, ◌≤◌, ◌<◌, ◌^◌, ℕ, ◌+◌, List, [], ◌∷◌, ◌++◌, None, Some, find, option_map, false, true, ⊤}
+use Rattle.std.specs.Prelude.{◌≡◌, ◌≢◌, ◌≤◌, ◌<◌, ◌^◌, ℕ, ◌+◌, Bool, List, [], ◌∷◌, ◌++◌, None, Some, find, is_some, option_map, false, true, ⊤}
 use Rattle.ll_verdict.specs.Waiting.{entry_in, found, is_ready_at}
 use Rattle.ll_directive.specs.Targets.{WantValue}
 use Rattle.ll_item.specs.Settings.{Configuration}
@@ -13,6 +13,7 @@ use Rattle.ll_room.specs.declared.stamped.Stamp.TheVariants as stamp
 use Rattle.ll_verdict.specs.Events.{Event, Ask, Clock, Close, Collect, asks}
 use Rattle.ll_verdict.specs.Verdict.{at_once, held}
 use Rattle.ll_verdict.specs.declared.entry.Entry.{Entry}
+use Rattle.ll_verdict.specs.declared.entry.Slot.{Slot}
 use Rattle.ll_rendition.specs.declared.fault.PublishFault.{PublishFault}
 use Rattle.ll_rendition.specs.declared.fault.PublishFault.TheVariants as refused
 use Rattle.ll_hub_channel.specs.Told.{HasToWait, IsAnswered, IsDecided, IsDecidedIn, IsHeld, IsRefused, is_filled}
@@ -46,6 +47,10 @@ pub record IsOpenAt (r : Recording) (place : ℕ) (c : Configuration) (entry : E
 -- its reply is there
 abbrev pub IsReady : Recording → Entry → Type 0
 IsReady r entry = option_map entry_in (find (is_ready_at entry.ticket) r.room.slots) ≡ Some entry
+
+-- whether the request of this ticket is open, and its reply is there
+abbrev pub has_reply : List Slot → ℕ → Bool
+has_reply slots ticket = is_some (find (is_ready_at ticket) slots)
 
 -- why a channel isn't the one that the caller knows, with the items that it has seen
 abbrev pub IsUnmetBy : Recording → ℕ → Configuration → ℕ → HubFault → Type 0

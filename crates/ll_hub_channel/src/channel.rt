@@ -93,6 +93,18 @@ impl Channel {
         self.recorder.room().ready()
     }
 
+    /// Keeps those of `tickets` whose requests are open and have their reply.
+    pub fn keep_ready(&self, tickets: &mut Vec<u64>)
+        ensures { tickets.new.items ≡ filter (spec.has_reply self.now.room.slots) tickets.old.items }
+    {
+        let room = self.recorder.room();
+        tickets.retain(
+            |ticket: &u64| -> bool
+                ensures { result ≡ spec.has_reply room.entry.now.slots ticket.now }
+            { room.ready_at(*ticket).is_some() },
+        );
+    }
+
     /// Tests whether this is the channel that the caller knows, and has what the caller has seen. If not, it is Stranger or WentBack, in
     /// this order.
     pub fn meet(&self, known: Known<'_>) -> Result<(), HubFault>

@@ -3,7 +3,7 @@ ghost use Rattle.std.specs.Prelude.{◌≡◌};
 
 use crate::rows::{number, push, push_three};
 use ll_directive::read_target;
-use ll_hub::{Blanks, Claim, Clock, Hub, HubAsked, HubFault, Ledgers, Pass, Totals};
+use ll_hub::{Bell, Blanks, Claim, Clock, Hub, HubAsked, HubFault, Ledgers, Pass, Totals};
 use ll_item::{Item, Payload, Settings};
 use ll_verdict::Reply;
 use std::alloc::{AllocError, Global};
@@ -52,6 +52,14 @@ impl Clock for Stopped {
     fn now(&self) -> u64 {
         0
     }
+}
+
+/// A bell that nobody hears, for callers who wait in the hub.
+#[derive(Clone, Copy)]
+pub(crate) struct Silent;
+
+impl Bell for Silent {
+    fn ring(&mut self, _channel: usize, _more: usize) {}
 }
 
 /// A clock that counts its readings. A reading waits until `came` is at least 1, which `met` counts, or the turns are over.
@@ -154,7 +162,7 @@ pub(crate) fn publish<L: Ledgers, R: Wait + Abort>(
 ) -> Result<u64, HubFault> {
     let settings = settings(rt, alloc, CAM);
     let item = Item::read(alloc, &settings, line, &Payload::none()).expect(rt, "an item");
-    let count = hub.publish(rt, pass, channel, item)?;
+    let count = hub.publish(rt, &mut Silent, pass, channel, item)?;
     Ok(count.into_inner())
 }
 
@@ -181,7 +189,7 @@ pub(crate) fn ask<L: Ledgers, C: Clock, R: Wait + Abort>(
     target: &str,
 ) -> Result<HubAsked, HubFault> {
     let want = read_target(alloc, target.as_bytes()).expect(rt, "a target");
-    hub.ask(rt, clock, pass, channel, want)
+    hub.ask(rt, clock, &mut Silent, pass, channel, want)
 }
 
 /// Returns the reply to a request for `target`. If the request is held, it is closed, and the result is `None`.
@@ -258,7 +266,7 @@ pub(crate) fn awaited<L: Ledgers, R: Wait + Abort>(
 }
 
 /// Returns how many items a playlist has and its last line, or the name of another reply.
-fn told(alloc: Global, reply: &Reply) -> Result<String, AllocError> {
+pub(crate) fn told(alloc: Global, reply: &Reply) -> Result<String, AllocError> {
     match reply {
         Reply::Text(page) => told_page(alloc, page.number(), page.text()),
         other => String::from_str(alloc, other.name()),
@@ -293,7 +301,20 @@ pub(crate) fn take<L: Ledgers, R: Wait + Abort>(
         return;
     }
     let ms = number(rt, event);
-    hub.tick(rt, ms).expect(rt, "a reading");
+    hub.tick(rt, &mut Silent, ms).expect(rt, "a reading");
+}
+
+/// Takes events, one after another.
+pub(crate) fn take_each<L: Ledgers, R: Wait + Abort>(
+    rt: &R,
+    alloc: Global,
+    hub: &Hub<L>,
+    pass: &mut Pass<L>,
+    events: &str,
+) {
+    for event in events.split_whitespace() {
+        take(rt, alloc, hub, pass, event);
+    }
 }
 
 /// Returns the name of `fault`, if it is one that the tests expect.

@@ -6,7 +6,7 @@ use crate::cases::{
     publish, push_finished, reply, seat,
 };
 use crate::rows::{push, same, same_number};
-use ll_hub::{Blanks, Hub, Ledgers, Pass};
+use ll_hub::{Blanks, Claim, Hub, Ledgers, Pass, Waited};
 use std::alloc::Global;
 use std::marker::Brand;
 use std::process::Abort;
@@ -61,8 +61,22 @@ fn unknown_channels_are_refused(rt: HostRuntime) {
     check_beyond(&rt, rt.alloc(), usize::MAX);
 }
 
-/// Holds two requests of a channel, waits for one in another hub, which doesn't hold them, and closes the other there. Appends why the wait is
-/// refused, and whether the other hub held the closed request.
+/// Collects the reply to a request of another hub. Returns why that is refused.
+fn collect<L: Ledgers, R: Wait>(
+    rt: &R,
+    hub: &Hub<L>,
+    pass: &mut Pass<L>,
+    claim: Claim,
+) -> &'static str {
+    match hub.collect(rt, pass, claim) {
+        Ok(Waited::Reply(_)) => "a reply",
+        Ok(Waited::Still(claim)) => close(rt, hub, claim),
+        Err(fault) => fault_name(Some(fault)),
+    }
+}
+
+/// Holds three requests of a channel, and in another hub, which doesn't hold them, waits for one, collects one and closes one. Appends why the first two
+/// calls are refused, and whether the other hub held the closed request.
 fn spend_elsewhere<L: Ledgers, M: Ledgers, R: Wait + Abort>(
     rt: &R,
     alloc: Global,
@@ -78,11 +92,14 @@ fn spend_elsewhere<L: Ledgers, M: Ledgers, R: Wait + Abort>(
     push(rt, text, fault_name(waited));
     push(rt, text, ", ");
     let claim = held(rt, alloc, hub, &Stopped, pass, channel, FIRST);
+    push(rt, text, collect(rt, other, &mut theirs, claim));
+    push(rt, text, ", ");
+    let claim = held(rt, alloc, hub, &Stopped, pass, channel, FIRST);
     push(rt, text, close(rt, other, claim));
     theirs
 }
 
-/// Spends two requests of one of two channels in a hub of one channel. Returns what [`spend_elsewhere`] appends, the totals of that hub, and those of
+/// Spends three requests of one of two channels in a hub of one channel. Returns what [`spend_elsewhere`] appends, the totals of that hub, and those of
 /// their own.
 fn claim_elsewhere<L: Ledgers, M: Ledgers, R: Wait + Abort>(
     rt: &R,
@@ -121,11 +138,11 @@ fn claims_of_other_hubs_are_refused(rt: HostRuntime) {
     }
 }
 
-/// Returns the expected result for two requests of `channel` that are spent in another hub.
+/// Returns the expected result for three requests of `channel` that are spent in another hub.
 fn spent_elsewhere(channel: usize) -> &'static str {
     if channel == 0 {
-        "Stranger, strange, 0 0 0;0 2 2;0 0 0;"
+        "Stranger, Stranger, strange, 0 0 0;0 3 3;0 0 0;"
     } else {
-        "UnknownChannel, strange, 0 0 0;0 0 0;0 2 2;"
+        "UnknownChannel, UnknownChannel, strange, 0 0 0;0 0 0;0 3 3;"
     }
 }

@@ -3,7 +3,7 @@ ghost use Rattle.std.specs.Prelude.{◌≡◌};
 
 use crate::cases::{
     FIRST, NOW, SEGMENT, Stopped, asked, awaited, close, fault_name, finished, finished_with, held,
-    hub_of_one, hub_of_three, published, push_finished, reply, seat, take,
+    hub_of_one, hub_of_three, published, push_finished, reply, seat, take_each,
 };
 use crate::rows::{Row, number, push, push_three, same};
 use ll_hub::{Blanks, Hub, Ledgers, Pass};
@@ -49,19 +49,6 @@ const TURNS: &str = "1 1 1;2 2 2;3 3 3;4 4 4;5 5 5;6 6 6;7 7 7;8 8 8;8 8 0;";
 fn ask_after_publish_has_it(rt: HostRuntime) {
     let told = publish_and_ask::<Brand, HostRuntime>(&rt, rt.alloc(), Blanks::new());
     same(&rt, "8 turns", told.as_str(), TURNS);
-}
-
-/// Takes events, one after another.
-fn take_each<L: Ledgers, R: Wait + Abort>(
-    rt: &R,
-    alloc: Global,
-    hub: &Hub<L>,
-    pass: &mut Pass<L>,
-    events: &str,
-) {
-    for event in events.split_whitespace() {
-        take(rt, alloc, hub, pass, event);
-    }
 }
 
 /// Makes a request, which is held, between the events of the first column and those of the third. Returns what it gets.

@@ -14,6 +14,8 @@ mod hub_tests;
 #[cfg(test)]
 mod publish_tests;
 #[cfg(test)]
+mod ready_tests;
+#[cfg(test)]
 mod record_tests;
 #[cfg(test)]
 mod rows;

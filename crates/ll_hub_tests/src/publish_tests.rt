@@ -1,7 +1,7 @@
 //! Tests that publish in one of two channels, and compare what that channel answers after each item with what is expected.
 ghost use Rattle.std.specs.Prelude.{◌≡◌};
 
-use crate::cases::{DOOR, Stopped, finished_with, hub_of_two, reply, seat, settings};
+use crate::cases::{DOOR, Silent, Stopped, finished_with, hub_of_two, reply, seat, settings};
 use crate::expected::{Expected, PLAYLISTS, numbered, text};
 use crate::rows::{Row, push, same, same_number};
 use ll_check::check;
@@ -189,7 +189,7 @@ fn offer<L: Ledgers, R: Wait + Abort>(
         Err(fault) => return format!(in alloc; "{fault}").expect(rt, "a text"),
     };
     let kept = item.copy().expect(rt, "an item");
-    match hub.publish(rt, pass, place, item) {
+    match hub.publish(rt, &mut Silent, pass, place, item) {
         Ok(count) => {
             expected.accept(rt, kept, line, bytes.as_str());
             let count = count.into_inner();

@@ -2,7 +2,7 @@
 ghost use Rattle.std.specs.Prelude.{◌≡◌, ◌≤◌, ◌^◌};
 
 use crate::cases::{
-    FIRST, Stopped, awaited, held, hub_of_one, hub_of_two, push_finished, seat, take,
+    FIRST, Silent, Stopped, awaited, held, hub_of_one, hub_of_two, push_finished, seat, take_each,
 };
 use crate::rows::{Row, number, push};
 use ll_hub::{Blanks, Claim, Clock, Hub, Ledgers, Pass, Waited};
@@ -43,19 +43,6 @@ fn still<L: Ledgers, R: Wait + Abort + time::Clock>(
     match hub.wait_within(rt, pass, claim, Duration::from_millis(1)) {
         Ok(Waited::Still(claim)) => claim,
         _ => panic!(rt; "it isn't held"),
-    }
-}
-
-/// Takes events, one after another.
-fn take_each<L: Ledgers, R: Wait + Abort>(
-    rt: &R,
-    alloc: Global,
-    hub: &Hub<L>,
-    pass: &mut Pass<L>,
-    events: &str,
-) {
-    for event in events.split_whitespace() {
-        take(rt, alloc, hub, pass, event);
     }
 }
 
@@ -153,7 +140,8 @@ fn partly<L: Ledgers, R: Wait + Abort + time::Clock>(
     let second = held(rt, alloc, &hub, &Stopped, &mut pass, 1, FIRST);
     let from = number(rt, row.column(0)) as usize;
     let ms = number(rt, row.column(1));
-    hub.tick_from(rt, from, ms).expect(rt, "a reading");
+    hub.tick_from(rt, &mut Silent, from, ms)
+        .expect(rt, "a reading");
     let mut text = String::new(alloc);
     push(rt, &mut text, looked(rt, &hub, &mut pass, first));
     push(rt, &mut text, looked(rt, &hub, &mut pass, second));

@@ -2,7 +2,7 @@
 ghost use Rattle.std.specs.Prelude.{◌≡◌};
 
 use crate::calls::{Tried, UNTRIED, judge};
-use ll_hub::{Blanks, Claim, Clock, Hub, HubAsked, Ledgers, Pass};
+use ll_hub::{Bell, Blanks, Claim, Clock, Hub, HubAsked, Ledgers, Pass, Waited};
 use ll_item::Settings;
 use ll_trial::{CHANNEL, CallResult, PART, Tools, answer_in, item, want};
 use std::marker::Brand;
@@ -23,11 +23,21 @@ impl Clock for Stopped {
     }
 }
 
+/// A bell that nobody hears, for callers who wait in the hub.
+#[derive(Clone, Copy)]
+struct Silent;
+
+impl Bell for Silent {
+    fn ring(&mut self, _channel: usize, _more: usize) {}
+}
+
 /// How a request of a hub ends.
 #[derive(Clone, Copy, PartialEq, Eq)]
 pub(crate) enum Ending {
     /// Its reply, which is ready, is waited for.
     Wait,
+    /// Its reply, which is ready, is collected.
+    Collect,
     /// It is closed.
     Close,
 }
@@ -77,7 +87,8 @@ fn held_in<L: Ledgers, R: Wait>(
     let is_there = is_published(tools, hub, pass);
     let tried = match ending {
         Ending::Wait if is_there => wait(tools, hub, pass, claim),
-        Ending::Wait | Ending::Close => close(tools, hub, claim),
+        Ending::Collect if is_there => collect(tools, hub, pass, claim),
+        Ending::Wait | Ending::Collect | Ending::Close => close(tools, hub, claim),
     };
     is_there.then_some(tried)
 }
@@ -89,7 +100,7 @@ fn held<L: Ledgers, R: Wait>(
     pass: &mut Pass<L>,
 ) -> Option<Claim> {
     let want = want(tools.alloc, FIRST)?;
-    match hub.ask(tools.rt, &Stopped, pass, 0, want) {
+    match hub.ask(tools.rt, &Stopped, &mut Silent, pass, 0, want) {
         Ok(HubAsked::Held(claim)) => Some(claim),
         Ok(HubAsked::Now(_reply)) => None,
         Err(_) => None,
@@ -103,7 +114,7 @@ fn is_published<L: Ledgers, R: Wait>(
     pass: &mut Pass<L>,
 ) -> bool {
     match item(tools.alloc, PART) {
-        Some(item) => hub.publish(tools.rt, pass, 0, item).is_ok(),
+        Some(item) => hub.publish(tools.rt, &mut Silent, pass, 0, item).is_ok(),
         None => false,
     }
 }
@@ -119,6 +130,26 @@ fn wait<L: Ledgers, R: Wait>(
     let met = tools.end();
     let is_right = match waited {
         Ok(reply) => answer_in(reply) == CallResult::Text(1),
+        Err(_) => false,
+    };
+    judge(met, false, is_right)
+}
+
+fn collect<L: Ledgers, R: Wait>(
+    tools: &Tools<'_, R>,
+    hub: &Hub<L>,
+    pass: &mut Pass<L>,
+    claim: Claim,
+) -> Tried {
+    tools.refuse_all();
+    let waited = hub.collect(tools.rt, pass, claim);
+    let met = tools.end();
+    let is_right = match waited {
+        Ok(Waited::Reply(reply)) => answer_in(reply) == CallResult::Text(1),
+        Ok(Waited::Still(claim)) => {
+            hub.close(tools.rt, claim);
+            false
+        }
         Err(_) => false,
     };
     judge(met, false, is_right)

@@ -52,7 +52,7 @@ enum Refused {
 }
 
 /// The calls of which every allocation is refused, with their names.
-const REFUSED: [(&str, Refused); 9] = [
+const REFUSED: [(&str, Refused); 10] = [
     ("Recorder::collect", Refused::Held(Steady::Collect)),
     ("Recorder::close", Refused::Held(Steady::Close)),
     ("Room::next_ready", Refused::Held(Steady::NextReady)),
@@ -64,6 +64,7 @@ const REFUSED: [(&str, Refused); 9] = [
     ),
     ("Room::clock, Room::collect", Refused::TimeOut),
     ("Hub::wait", Refused::Hub(Ending::Wait)),
+    ("Hub::collect", Refused::Hub(Ending::Collect)),
     ("Hub::close", Refused::Hub(Ending::Close)),
 ];
 

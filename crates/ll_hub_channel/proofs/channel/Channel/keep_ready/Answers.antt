@@ -1,0 +1,7 @@
+-- The tickets that stay are those that the closure lets stay.
+use Rattle.std.proofs.Common.{rules}
+use Rattle.std.proofs.lemmas.Fn.{filter_same}
+use Rattle.ll_hub_channel.proofs.channel.Channel.keep_ready.Goals as goal
+
+pub returns : goal.returns
+returns c = filter_same _ _ _ (λ x b f' k. search rules) _ _ c.retain.ensures.filtered
