@@ -1,16 +1,14 @@
-//! Connections of players and publishers on a hub, and the workers that serve them.
+//! The threads that serve connections: workers, each of which serves one at a time, and pollers, each of which serves many players.
 #![tactic(auto)]
 
-mod fault;
+mod bells;
+mod links;
 mod player;
 mod players;
-mod publisher;
-mod seat;
-mod service;
-mod workers;
+mod poller;
 
-pub use fault::LinkFault;
+pub use bells::Bells;
+pub use links::serve_links;
 pub use ll_device::{Link, Role, Source, TryLink};
-pub use ll_server::Gate;
+pub use ll_link::{Bell, Gate, LinkFault, Service, serve_link, serve_link_within};
 pub use players::serve_players;
-pub use workers::{serve_link, serve_link_within, serve_links};

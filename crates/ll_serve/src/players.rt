@@ -1,47 +1,37 @@
-//! Workers that serve players: connections at rest take no worker.
+//! Players, each served by one of a few pollers from its first byte to its last.
 ghost use denote.Param.Send.{IsSend, IsSync};
-ghost use Rattle.std.specs.Prelude.{◌<◌, ◌≡◌, ◌≤◌, IfErr, IfOk, length};
+ghost use Rattle.std.specs.Prelude.{◌≡◌, ◌<◌, ◌≤◌, IfErr, IfOk, length};
 ghost use Rattle.std.specs.List.{All};
 ghost use Rattle.ll_hub.specs.Passes.{new_pass};
 
-use crate::player::turn;
-use crate::seat::{Player, Post, Seat};
-use crate::service::Service;
-use crate::workers::{READS, seats};
-use crossbeam_channel::{Receiver, Sender};
-use ll_device::{Failed, Ready, Rest, Source, TryLink};
-use ll_hub::{Clock, Hub, HubFault, Ledgers, Pass, Sink};
-use ll_server::Gate;
-use std::alloc::Global;
-use std::net::Net;
+use crate::bells::{Bells, Watch};
+use crate::links::seats;
+use crate::poller::Poller;
+use ll_device::{Source, TryLink};
+use ll_hub::{Bell, Clock, HubFault, Ledgers, Pass, Sink};
+use ll_link::{Gate, Service};
+use std::alloc::{AllocError, Global};
 use std::slice::IterMut;
-use std::sync::atomic::{AtomicBool, AtomicU64, Ordering};
+use std::sync::atomic::{AtomicBool, AtomicUsize, Ordering};
 use std::sync::{Mutex, Wait};
 use std::thread::Threads;
 use std::{thread, time};
 
-/// The least number of workers for each that is on the lookout.
-const WORKERS: usize = 4;
-
-/// The number of reads in a row, all of them answered at once, after which a connection that was waited for goes back to rest.
-const AT_ONCE: u64 = 8;
-
-/// Serves the connections of players that `source` gives by `workers` workers, until it gives no more and all are served. A connection's
-/// fault ends that connection alone. Returns the workers' passes, which [`Hub::finish`] takes.
+/// Serves the connections of players that `source` gives, until it gives no more and all are served. A connection's fault ends that
+/// connection alone. Returns the pollers' passes, which [`ll_hub::Hub::finish`] takes.
 ///
-/// A connection that has sent nothing since its last answer is at rest, and takes no worker. Some workers, as many as there are processors,
-/// are on the lookout for those at rest that send something, and answer what can be answered at once. Before one of them waits for a
-/// connection, because a request of it is held or its player takes an answer slowly, it hands the lookout to another worker; it then serves
-/// that connection alone, until it is answered at once again and again.
+/// There is a poller for each of `bells`, which is also the bell of `service`. A connection belongs to one poller, which never waits for it:
+/// not for its bytes, not for the reply to its request that is held, and not for its player to take an answer. One that is idle for more
+/// than `idle` seconds is closed; one whose request is held isn't idle.
 ///
-/// All passes are taken before the first connection. Workers are started as connections come. If the system starts no thread, a connection
-/// is served by the workers that there are, or is closed if there are none.
+/// All passes are taken before the first connection. Pollers are started when the first connection comes. If the system starts no thread, it
+/// is tried again when the next one comes, and a connection is closed if there is no poller.
 ///
-/// If it fails, it has taken no connection. It returns the passes that it has taken, fewer than `workers`, each of which has seen and
+/// If it fails, it has taken no connection. It returns the passes that it has taken, fewer than there are bells, each of which has seen and
 /// counted nothing, and the reason:
 ///
 /// 1. The hub has no more passes: Short.
-/// 2. Out of memory, also before the first pass was taken, or the system can't watch connections at rest: Memory.
+/// 2. Out of memory, also before the first pass was taken: Memory.
 pub fn serve_players<
     L: Ledgers + Send + Sync,
     P: TryLink + Send,
@@ -49,282 +39,77 @@ pub fn serve_players<
     C: Clock + Sync,
     G: Gate + Sync,
     K: Sink + Sync,
-    R: Net + Threads + Wait + time::Clock + Sync,
+    B: Bell + Sync,
+    R: Threads + Wait + time::Clock + Sync,
 >(
-    rt: &R,
-    alloc: Global,
+    service: &Service<'_, L, C, G, K, B, R>,
     source: &mut S,
-    workers: usize,
-    clock: &C,
-    gate: &G,
-    sink: &K,
-    hub: &Hub<L>,
+    bells: &Bells,
+    idle: u64,
 ) -> Result<Vec<Pass<L>>, (Vec<Pass<L>>, HubFault)>
-    requires some { 1 ≤ workers }
-    requires most { workers ≤ 4096 }
-    ensures all { IfOk result (λ passes. length passes.items ≡ workers) }
-    ensures fewer { IfErr result (λ e. length e.0.items < workers) }
-    ensures untouched { IfErr result (λ e. All (λ p. p ≡ new_pass (length hub.now)) e.0.items) }
+    ensures all { IfOk result (λ passes. length passes.items ≡ bells.now) }
+    ensures fewer { IfErr result (λ e. length e.0.items < bells.now) }
+    ensures untouched { IfErr result (λ e. All (λ p. p ≡ new_pass (length service.now.hub.now)) e.0.items) }
 {
-    let posts = posts_of(rt, workers);
-    let Ok((to, from)) = crossbeam_channel::bounded::<Post, Global>(alloc, posts) else {
+    let (rt, alloc) = (service.rt, service.alloc);
+    let Ok(inboxes) = inboxes_of(alloc, bells.len()) else {
         return Err((Vec::new(alloc), HubFault::Memory));
     };
-    let Ok(rests) = rests_of(rt, alloc, posts, &to) else {
-        return Err((Vec::new(alloc), HubFault::Memory));
-    };
-    // The passes come last, so that no earlier failure loses one.
-    let passes = seats(rt, alloc, workers, hub)?;
-    let open = AtomicU64::new(0);
+    let passes = seats(rt, alloc, bells.len(), service.hub)?;
     let hall = Hall {
-        service: Service {
-            rt,
-            alloc,
-            clock,
-            gate,
-            sink,
-            hub,
-            reads: READS,
-        },
-        open: &open,
-        rests,
-        to,
-        from,
+        service,
+        bells,
+        inboxes,
+        started: AtomicUsize::new(0),
         closed: AtomicBool::new(false),
+        idle,
     };
     Ok(share_out(&hall, source, passes))
 }
 
-/// Returns how many of `workers` workers are on the lookout: one for each processor, and few enough that others take their posts.
-fn posts_of<R: Threads>(rt: &R, workers: usize) -> usize {
-    let processors = match thread::available_parallelism(rt) {
-        Ok(count) => count.get(),
-        Err(_) => 1,
-    };
-    processors.min(workers / WORKERS).max(1)
-}
-
-/// Returns `count` rests, and puts their posts into the queue `to`.
-fn rests_of<T: Drop, R: Net + Wait + time::Clock>(
-    rt: &R,
-    alloc: Global,
-    count: usize,
-    to: &Sender<Post>,
-) -> Result<Vec<Rest<T>>, Failed> {
-    let mut rests = Vec::new(alloc);
-    for number in 0..count {
-        let (rest, lookout) = Rest::new(rt, alloc)?;
-        let post = Post {
-            lookout,
-            rest: number,
-        };
-        if rests.push(rest).is_err() || to.try_send(rt, post).is_err() {
-            return Err(Failed);
-        }
+/// Returns `count` empty inboxes.
+fn inboxes_of<P: Drop>(alloc: Global, count: usize) -> Result<Vec<Mutex<Vec<P>>>, AllocError> {
+    let mut inboxes = Vec::new(alloc);
+    for _ in 0..count {
+        inboxes.push(Mutex::new(Vec::new(alloc)))?;
     }
-    Ok(rests)
+    Ok(inboxes)
 }
 
-/// What the workers that serve players share.
+/// What the pollers share.
 #[derive(Drop)]
-struct Hall<'a, L: Ledgers, P: TryLink, C, G, K, R> {
-    service: Service<'a, L, C, G, K, R>,
-    /// The number of open connections.
-    open: &'a AtomicU64,
-    rests: Vec<Rest<Player<'a, P>>>,
-    to: Sender<Post>,
-    from: Receiver<Post>,
+struct Hall<'a, L: Ledgers, P: TryLink, C, G, K, B, R> {
+    service: &'a Service<'a, L, C, G, K, B, R>,
+    bells: &'a Bells,
+    /// For each poller, the connections that it has not taken in yet.
+    inboxes: Vec<Mutex<Vec<P>>>,
+    /// The number of pollers whose threads run.
+    started: AtomicUsize,
     /// Whether no more connections come.
     closed: AtomicBool,
+    idle: u64,
 }
 
-/// The result of serving a connection once.
-#[derive(Drop)]
-struct Served<'a, P: Drop> {
-    /// The connection, if it stays.
-    player: Option<Player<'a, P>>,
-    /// The worker's post, if it still has it.
-    post: Option<Post>,
-    waited: bool,
-    full: bool,
-}
-
-impl<'a, L: Ledgers, P: TryLink, C: Clock, G: Gate, K: Sink, R: Wait + time::Clock> Hall<
-    'a,
-    L,
-    P,
-    C,
-    G,
-    K,
-    R,
-> {
-    /// Returns whether all connections were served, and no more come.
-    fn is_over(&self) -> bool {
-        self.closed.load(Ordering::SeqCst) && self.open.load(Ordering::SeqCst) == 0
-    }
-
-    /// Returns how many workers there should be: one for each connection, and those on the lookout.
-    fn wanted(&self) -> u64 {
-        let open = self.open.load(Ordering::SeqCst);
-        open.saturating_add(self.rests.len() as u64)
-    }
-
-    /// Returns the index of the rest for the next connection, after `came` others; `None` if no worker was started.
-    fn rest_of(&self, came: u64, started: u64) -> Option<usize> {
-        let posts = started.min(self.rests.len() as u64);
-        Some(came.checked_rem(posts)? as usize)
-    }
-
-    /// Hands `post` to another worker.
-    fn hand_on(&self, post: Post) {
-        let _ = self.to.try_send(self.service.rt, post);
-    }
-
-    /// Puts `player` to rest in `rests[number]`. Closes it if out of memory, or if the system refuses it.
-    fn put_to_rest(&self, number: usize, player: Player<'a, P>) {
-        let fd = player.link.descriptor();
-        if let Some(rest) = self.rests.get(number) {
-            let _ = rest.take_in(self.service.rt, fd, player);
-        }
-    }
-
-    /// Reads once, and answers what came, with or without a post.
-    fn serve(
-        &self,
-        player: Player<'a, P>,
-        post: Option<Post>,
-        pass: &mut Pass<L>,
-    ) -> Served<'a, P> {
-        let Player {
-            link,
-            mut talk,
-            mut answers,
-            opened,
-        } = player;
-        let mut seat = Seat {
-            rt: self.service.rt,
-            link,
-            post,
-            next: &self.to,
-            waited: false,
-            full: false,
+impl<L: Ledgers, P: TryLink, C, G, K, B, R: Wait> Hall<'_, L, P, C, G, K, B, R> {
+    /// Hands `link`, which came after `came` others, to one of the `started` pollers. Closes it if there is none, or if out of memory.
+    fn hand_over(&self, link: P, came: usize, started: usize) {
+        let Some(number) = came.checked_rem(started) else {
+            return;
         };
-        let stays = turn(
-            &self.service,
-            &mut seat,
-            pass,
-            &mut talk.session,
-            &mut answers,
-        );
-        let Seat {
-            rt: _,
-            link,
-            post,
-            next: _,
-            waited,
-            full,
-        } = seat;
-        let player = match stays {
-            Ok(true) => Some(Player {
-                link,
-                talk,
-                answers,
-                opened,
-            }),
-            _ => None,
-        };
-        Served {
-            player,
-            post,
-            waited,
-            full,
+        if let (Some(inbox), Some(bell)) = (self.inboxes.get(number), self.bells.get(number)) {
+            let _ = inbox.lock(self.service.rt).push(link);
+            bell.wake();
         }
     }
 
-    /// Serves the connection that `ready` names, and returns `post`. If the worker waited for the connection, and so gave the post away,
-    /// fails with the connection, if it stays.
-    fn visit(
-        &self,
-        post: Post,
-        rest: &Rest<Player<'a, P>>,
-        ready: Ready,
-        pass: &mut Pass<L>,
-    ) -> Result<Post, Option<Player<'a, P>>> {
-        let (rt, key) = (self.service.rt, ready.key);
-        let Some(player) = rest.take(rt, key) else {
-            return Ok(post);
-        };
-        let fd = player.link.descriptor();
-        let served = self.serve(player, Some(post), pass);
-        match (served.post, served.player) {
-            (Some(post), Some(player)) => {
-                rest.put_back(rt, key, player);
-                if served.full || ready.ended {
-                    rest.look_again(fd, key);
-                }
-                Ok(post)
-            }
-            (None, Some(player)) => {
-                rest.leave(rt, fd, key);
-                Err(Some(player))
-            }
-            (post, None) => {
-                rest.forget(rt, key);
-                post.ok_or(None)
-            }
-        }
-    }
-
-    /// Serves connections that can be read, until the post is another worker's. Returns the connection that was waited for, if it stays,
-    /// and the index of its rest.
-    // Not inlined, so that a worker has touched little of its stack until it has a post.
-    #[inline(never)]
-    fn look_out(&self, mut post: Post, pass: &mut Pass<L>) -> Option<(usize, Player<'a, P>)> {
-        for _ in self.service.rt.forever() {
-            let number = post.rest;
-            let rest = self.rests.get(number)?;
-            if self.is_over() {
-                self.hand_on(post);
-                return None;
-            }
-            let Some(ready) = post.lookout.next(self.service.rt, rest) else {
-                continue;
-            };
-            post = match self.visit(post, rest, ready, pass) {
-                Ok(post) => post,
-                Err(left) => return Some((number, left?)),
-            };
-        }
-        unreachable!()
-    }
-
-    /// Serves `first` alone, until it ends or goes back to `rests[number]`.
-    #[inline(never)]
-    fn serve_alone(&self, number: usize, first: Player<'a, P>, pass: &mut Pass<L>) {
-        let mut player = first;
-        let mut at_once = 0;
-        for _ in self.service.rt.forever() {
-            if at_once >= AT_ONCE {
-                self.put_to_rest(number, player);
-                return;
-            }
-            let Served {
-                player: stays,
-                post: _post,
-                waited,
-                full: _,
-            } = self.serve(player, None, pass);
-            let Some(stays) = stays else {
-                return;
-            };
-            player = stays;
-            at_once = if waited { 0 } else { at_once + 1 };
-        }
-        unreachable!()
+    /// Notes that no more connections come.
+    fn close(&self) {
+        self.closed.store(true, Ordering::SeqCst);
+        self.bells.wake_all();
     }
 }
 
-/// Serves the connections of `source` by at most one worker for each pass of `given`, and returns the passes.
+/// Serves the connections of `source` by a poller for each pass of `given`, and returns the passes.
 fn share_out<
     L: Ledgers + Send + Sync,
     P: TryLink + Send,
@@ -332,19 +117,20 @@ fn share_out<
     C: Clock + Sync,
     G: Gate + Sync,
     K: Sink + Sync,
+    B: Bell + Sync,
     R: Threads + Wait + time::Clock + Sync,
->(hall: &Hall<'_, L, P, C, G, K, R>, source: &mut S, given: Vec<Pass<L>>) -> Vec<Pass<L>>
+>(hall: &Hall<'_, L, P, C, G, K, B, R>, source: &mut S, given: Vec<Pass<L>>) -> Vec<Pass<L>>
     ensures { length result.items ≡ length given.items }
 {
     let mut passes = given;
-    let workers = passes.len() as u64;
+    let pollers = passes.len();
     let seats = Mutex::new(passes.iter_mut());
-    admit(hall, source, &seats, workers);
+    admit(hall, source, &seats, pollers);
     drop(seats);
     passes
 }
 
-/// Takes in the connections of `source`, and starts up to `workers` workers for them. Returns when all workers have ended.
+/// Hands out the connections of `source`, and starts `pollers` pollers for them. Returns when all have ended.
 fn admit<
     L: Ledgers + Send + Sync,
     P: TryLink + Send,
@@ -352,36 +138,34 @@ fn admit<
     C: Clock + Sync,
     G: Gate + Sync,
     K: Sink + Sync,
+    B: Bell + Sync,
     R: Threads + Wait + time::Clock + Sync,
 >(
-    hall: &Hall<'_, L, P, C, G, K, R>,
+    hall: &Hall<'_, L, P, C, G, K, B, R>,
     source: &mut S,
     seats: &Mutex<IterMut<'_, Pass<L>>>,
-    workers: u64,
+    pollers: usize,
 ) {
     let rt = hall.service.rt;
     thread::scope(
         thread::scope_env(),
         rt,
         |scope|
-            requires { IsSync R.row × IsSync C.row × IsSync G.row × IsSync K.row × IsSync L.row × IsSend L.row × IsSend P.row }
+            requires { IsSync R.row × IsSync C.row × IsSync G.row × IsSync K.row × IsSync B.row × IsSync L.row × IsSend L.row × IsSend P.row }
         {
             let (mut started, mut came) = (0, 0);
             for _ in rt.forever() {
                 let Some(link) = source.next() else {
-                    hall.closed.store(true, Ordering::SeqCst);
+                    hall.close();
                     return;
                 };
-                let player = Player::new(hall.service.alloc, link, hall.open);
-                for _ in started..hall.wanted().min(workers) {
+                for _ in started..pollers {
                     if scope.spawn(move || work(hall, seats)).is_err() {
                         break;
                     }
                     started = started.saturating_add(1);
                 }
-                if let Some(number) = hall.rest_of(came, started) {
-                    hall.put_to_rest(number, player);
-                }
+                hall.hand_over(link, came, started);
                 came = came.wrapping_add(1);
             }
             unreachable!()
@@ -389,10 +173,10 @@ fn admit<
     );
 }
 
-/// Takes a pass, and then one post after another, until all is over.
+/// Takes a pass and the next bell, and serves the connections that come to its poller.
 // It takes its pass itself: one that was moved into the closure of a thread would be lost if the thread isn't started.
-fn work<L: Ledgers, P: TryLink, C: Clock, G: Gate, K: Sink, R: Wait + time::Clock>(
-    hall: &Hall<'_, L, P, C, G, K, R>,
+fn work<L: Ledgers, P: TryLink, C: Clock, G: Gate, K: Sink, B: Bell, R: Wait + time::Clock>(
+    hall: &Hall<'_, L, P, C, G, K, B, R>,
     seats: &Mutex<IterMut<'_, Pass<L>>>,
 ) {
     let rt = hall.service.rt;
@@ -400,17 +184,13 @@ fn work<L: Ledgers, P: TryLink, C: Clock, G: Gate, K: Sink, R: Wait + time::Cloc
     let Some(pass) = seat else {
         return;
     };
-    for _ in rt.forever() {
-        let Ok(post) = hall.from.recv(rt) else {
-            return;
-        };
-        if hall.is_over() {
-            hall.hand_on(post);
-            return;
-        }
-        if let Some((number, player)) = hall.look_out(post, pass) {
-            hall.serve_alone(number, player, pass);
-        }
-    }
-    unreachable!()
+    let number = hall.started.fetch_add(1, Ordering::SeqCst);
+    let (Some(bell), Some(inbox)) = (hall.bells.get(number), hall.inboxes.get(number)) else {
+        return;
+    };
+    let Some(Watch { poll, mut events }) = bell.take_watch(rt) else {
+        return;
+    };
+    let mut poller = Poller::new(hall.service, bell, poll, hall.idle);
+    poller.run(pass, &mut events, inbox, &hall.closed);
 }

@@ -1,13 +1,13 @@
 //! A test of records that become full while a connection is served.
 ghost use Rattle.std.specs.Prelude.{◌≡◌};
 
-use crate::hubs::{SEGMENT, Stopped, add_one, finished_with, hub_of_one, published, seat};
+use crate::hubs::{SEGMENT, Silent, Stopped, add_one, finished_with, hub_of_one, published, seat};
 use crate::rows::{Row, number, same, same_number};
 use crate::wires::{ANSWER, GET, LINE, Open, SOUND, Wire, text_of};
 use ll_check::check;
 use ll_hub::{Blanks, Hub, Ledgers, Pass, Sink};
 use ll_record::Chunk;
-use ll_serve::{Role, serve_link};
+use ll_serve::{Role, Service, serve_link};
 use std::alloc::Global;
 use std::marker::Brand;
 use std::process::Abort;
@@ -61,7 +61,7 @@ fn hand_out<L: Ledgers, R: Wait + Abort>(rt: &R, hub: &Hub<L>, mut sink: &Kept<'
 /// Takes `readings` readings of the clock.
 fn tick_each<L: Ledgers, R: Wait + Abort>(rt: &R, hub: &Hub<L>, readings: u64) {
     for ms in 0..readings {
-        hub.tick(rt, ms).expect(rt, "a reading");
+        hub.tick(rt, &mut Silent, ms).expect(rt, "a reading");
     }
 }
 
@@ -79,9 +79,16 @@ fn serve_one<L: Ledgers, R: Wait + Clock + Abort>(
         Role::Publisher => (LINE, "ok 2\n"),
     };
     let mut wire = Wire::new(alloc, bytes, SOUND);
-    let _ = serve_link(
-        rt, alloc, role, &mut wire, &Stopped, &Open, &sink, hub, pass,
-    );
+    let service = Service {
+        rt,
+        alloc,
+        clock: &Stopped,
+        gate: &Open,
+        sink: &sink,
+        bell: &Silent,
+        hub,
+    };
+    let _ = serve_link(&service, role, &mut wire, pass);
     same(rt, "the answer", text_of(&wire.into_sent()), answer);
 }
 

@@ -1,12 +1,12 @@
 //! A test of connections whose request is held: they get its answer, they fail, or their player hangs up.
 ghost use Rattle.std.specs.Prelude.{◌≡◌};
 
-use crate::hubs::{SEGMENT, Waiting, comes_to, finished, hub_of_one, published, seat};
+use crate::hubs::{SEGMENT, Silent, Waiting, comes_to, finished, hub_of_one, published, seat};
 use crate::link_tests::{Served, name};
 use crate::rows::{push, same, same_number};
 use crate::wires::{ANSWER, Dropped, GET, GET_FIRST, Open, Plan, SOUND, Wire, text_of};
 use ll_hub::{Blanks, Hub, Ledgers, Pass};
-use ll_serve::{LinkFault, Role, serve_link};
+use ll_serve::{LinkFault, Role, Service, serve_link};
 use std::alloc::Global;
 use std::marker::Brand;
 use std::process::Abort;
@@ -131,19 +131,18 @@ fn serve_held<L: Ledgers + Send + Sync, R: Threads + Wait + time::Clock + Abort 
     let mut pass = seat(rt, &hub);
     let mut wire = Wire::new(alloc, bytes, case.plan);
     let clock = Waiting::new(1);
+    let service = Service {
+        rt,
+        alloc,
+        clock: &clock,
+        gate: &Open,
+        sink: &Dropped,
+        bell: &Silent,
+        hub: &hub,
+    };
     let (result, publisher) = thread::join(
         rt,
-        || serve_link(
-            rt,
-            alloc,
-            Role::Player,
-            &mut wire,
-            &clock,
-            &Open,
-            &Dropped,
-            &hub,
-            &mut pass,
-        ),
+        || serve_link(&service, Role::Player, &mut wire, &mut pass),
         || publish_after(rt, alloc, &hub, &clock.readings, case.published),
     );
     let passes = vec![in alloc; pass, publisher].expect(rt, "passes");

@@ -2,7 +2,7 @@
 ghost use Rattle.std.specs.Prelude.{◌≡◌};
 
 use crate::rows::push_three;
-use ll_hub::{Blanks, Clock, Hub, Ledgers, Pass};
+use ll_hub::{Bell, Blanks, Clock, Hub, Ledgers, Pass};
 use ll_item::{Item, Payload, Settings};
 use std::alloc::Global;
 use std::process::Abort;
@@ -30,6 +30,14 @@ impl Clock for Stopped {
     fn now(&self) -> u64 {
         0
     }
+}
+
+/// A bell that nobody hears, for callers who wait in the hub.
+#[derive(Clone, Copy)]
+pub(crate) struct Silent;
+
+impl Bell for Silent {
+    fn ring(&mut self, _channel: usize, _more: usize) {}
 }
 
 /// A clock that counts its readings. A reading waits until `came` is at least 1, which `met` counts, or the turns are over.
@@ -104,9 +112,22 @@ pub(crate) fn published<L: Ledgers, R: Wait + Abort>(
     channel: usize,
     line: &str,
 ) -> u64 {
+    published_rung(rt, alloc, hub, &mut Silent, pass, channel, line)
+}
+
+/// Does what [`published`] does, and rings `bell`.
+pub(crate) fn published_rung<L: Ledgers, B: Bell, R: Wait + Abort>(
+    rt: &R,
+    alloc: Global,
+    hub: &Hub<L>,
+    bell: &mut B,
+    pass: &mut Pass<L>,
+    channel: usize,
+    line: &str,
+) -> u64 {
     let settings = Settings::read(alloc, CAM).expect(rt, "settings");
     let item = Item::read(alloc, &settings, line, &Payload::none()).expect(rt, "an item");
-    let count = hub.publish(rt, pass, channel, item);
+    let count = hub.publish(rt, bell, pass, channel, item);
     count.expect(rt, "an item that is accepted").into_inner()
 }
 

@@ -4,6 +4,8 @@
 #[cfg(test)]
 mod full_tests;
 #[cfg(test)]
+mod halting;
+#[cfg(test)]
 mod held_tests;
 #[cfg(test)]
 mod hubs;
@@ -19,6 +21,8 @@ mod players_tests;
 mod rows;
 #[cfg(test)]
 mod socket_tests;
+#[cfg(test)]
+mod step_tests;
 #[cfg(test)]
 mod wires;
 #[cfg(test)]

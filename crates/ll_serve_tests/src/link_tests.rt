@@ -1,9 +1,9 @@
 //! Tests of connections whose reads and writes fail, or take a few bytes at a time.
 ghost use Rattle.std.specs.Prelude.{◌≡◌, ◌≤◌};
 
-use crate::hubs::{SEGMENT, Stopped, finished_with, hub_of_one, published, seat};
+use crate::hubs::{SEGMENT, finished_with, hub_of_one, published, seat};
 use crate::rows::{push, same, three};
-use crate::wires::{ANSWER, Dropped, GET, LINE, Open, Plan, SOUND, Wire, text_of};
+use crate::wires::{ANSWER, GET, LINE, Plan, SOUND, Wire, service, text_of};
 use ll_hub::{Blanks, Hub, Ledgers, Pass};
 use ll_serve::{LinkFault, Role, serve_link_within};
 use std::alloc::Global;
@@ -95,9 +95,8 @@ fn serve<L: Ledgers, R: Wait + Clock + Abort>(
     let mut pass = seat(rt, &hub);
     published(rt, alloc, &hub, &mut pass, 0, SEGMENT);
     let mut wire = Wire::new(alloc, &talk.bytes, plan);
-    let result = serve_link_within(
-        rt, alloc, talk.role, &mut wire, &Stopped, &Open, &Dropped, &hub, &mut pass, plan.looks,
-    );
+    let service = service(rt, alloc, &hub);
+    let result = serve_link_within(&service, talk.role, &mut wire, &mut pass, plan.looks);
     Served {
         result,
         sent: wire.into_sent(),

@@ -1,9 +1,9 @@
 //! A test of media over connections: what a publisher sends with its lines, players get byte for byte.
 ghost use Rattle.std.specs.Prelude.{◌≡◌};
 
-use crate::hubs::{SEGMENT, Stopped, finished_with, hub_of_one, published, seat};
+use crate::hubs::{SEGMENT, finished_with, hub_of_one, published, seat};
 use crate::rows::same;
-use crate::wires::{Dropped, Open, Plan, SOUND, Wire, text_of};
+use crate::wires::{Plan, SOUND, Wire, service, text_of};
 use ll_hub::{Blanks, Hub, Ledgers, Pass};
 use ll_serve::{Role, serve_link};
 use std::alloc::Global;
@@ -57,9 +57,7 @@ fn check_link<L: Ledgers, R: Wait + Clock + Abort>(
     sent: &str,
 ) {
     let mut wire = Wire::new(alloc, bytes, plan);
-    let end = serve_link(
-        rt, alloc, role, &mut wire, &Stopped, &Open, &Dropped, hub, pass,
-    );
+    let end = serve_link(&service(rt, alloc, hub), role, &mut wire, pass);
     assert!(rt; end.is_ok());
     same(rt, "what is sent", text_of(&wire.into_sent()), sent);
 }

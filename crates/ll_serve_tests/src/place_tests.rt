@@ -1,9 +1,9 @@
 //! A test of a publisher that asks where renditions stand.
 ghost use Rattle.std.specs.Prelude.{◌≡◌};
 
-use crate::hubs::{Stopped, finished_with, hub_of_one, seat};
+use crate::hubs::{finished_with, hub_of_one, seat};
 use crate::rows::{push, same};
-use crate::wires::{Dropped, Open, SOUND, Wire, text_of};
+use crate::wires::{SOUND, Wire, service, text_of};
 use ll_hub::{Blanks, Hub, Ledgers};
 use ll_serve::{Role, serve_link};
 use std::alloc::Global;
@@ -54,14 +54,9 @@ fn answered<L: Ledgers, R: Wait + Clock + Abort>(
     let mut pass = seat(rt, &hub);
     let mut wire = Wire::new(alloc, bytes, SOUND);
     let _ = serve_link(
-        rt,
-        alloc,
+        &service(rt, alloc, &hub),
         Role::Publisher,
         &mut wire,
-        &Stopped,
-        &Open,
-        &Dropped,
-        &hub,
         &mut pass,
     );
     let mut told = String::new(alloc);

@@ -1,32 +1,30 @@
-//! Tests of players' connections that share few workers, over sockets of one machine.
-ghost use Rattle.std.specs.Prelude.{◌≡◌, ◌≤◌};
+//! Tests of players' connections that share few pollers, over sockets of one machine.
+ghost use Rattle.std.specs.Prelude.{◌≡◌};
 
-use crate::hubs::{SEGMENT, Stopped, add_one, comes_to, finished, hub_of_one, published, seat};
+use crate::hubs::{SEGMENT, Stopped, finished, hub_of_one, published, published_rung, seat};
 use crate::rows::{same, same_number};
 use crate::socket_tests::{Few, check_exchange, connect, exchange};
 use crate::wires::{ANSWER, Dropped, GET, Open, text_of};
-use ll_hub::{Blanks, Hub, Ledgers, Pass, Sink};
-use ll_record::Chunk;
-use ll_serve::{Role, serve_players};
+use ll_hub::{Blanks, Hub, Ledgers, Pass};
+use ll_serve::{Bells, Role, Service, serve_players};
 use std::alloc::Global;
 use std::io::{Read, Write};
 use std::marker::Brand;
 use std::net::{Net, SocketAddr, TcpListener, TcpStream};
 use std::process::Abort;
 use std::sync::Wait;
-use std::sync::atomic::AtomicU64;
 use std::thread;
 use std::thread::Threads;
-use std::time::{Clock, Duration};
-
-/// A request for a channel that isn't there.
-const GET_OTHER: &[u8] = b"GET /two/hi/live.m3u8 HTTP/1.1\r\nHost: h\r\n\r\n";
+use std::time::Clock;
 
 /// A request that awaits the first part of the second segment.
 const GET_SECOND: &[u8] =
     b"GET /cam/hi/live.m3u8?_HLS_msn=1&_HLS_part=0 HTTP/1.1\r\nHost: h\r\n\r\n";
 
-/// How many requests a player makes after one that waited: more than its worker serves before the connection rests again.
+/// How long a player may be idle, in seconds, if the test takes less.
+const LONG: u64 = 30;
+
+/// How many requests a player makes after one that waited.
 const OFTEN: u64 = 12;
 
 /// Sends a request over a connection that is kept.
@@ -72,12 +70,13 @@ fn wait_and_ask<L: Ledgers, R: Net<Listener = TcpListener, Stream = TcpStream> +
     alloc: Global,
     address: SocketAddr,
     hub: &Hub<L>,
+    bells: &Bells,
     pass: &mut Pass<L>,
 ) {
     let player = connect(rt, address).expect(rt, "a connection");
     ask(rt, &player, GET_SECOND);
     check_exchange(rt, alloc, address, GET, ANSWER);
-    let count = published(rt, alloc, hub, pass, 0, SEGMENT);
+    let count = published_rung(rt, alloc, hub, &mut &*bells, pass, 0, SEGMENT);
     same_number(rt, "the second segment", count, 2);
     let now = exchange(rt, alloc, address, GET).expect(rt, "an answer");
     check_answer(rt, alloc, &player, text_of(&now));
@@ -87,7 +86,7 @@ fn wait_and_ask<L: Ledgers, R: Net<Listener = TcpListener, Stream = TcpStream> +
     }
 }
 
-/// Serves those who come in by `door` with `workers` workers. Returns the passes that come back.
+/// Serves those who come in by `listener` with a poller for each of `bells`; each may be idle for `idle` seconds. Returns the passes that come back.
 fn admit<
     L: Ledgers + Send + Sync,
     R: Net<Listener = TcpListener, Stream = TcpStream>
@@ -97,17 +96,30 @@ fn admit<
         + Eprint
         + Abort
         + Sync,
->(rt: &R, alloc: Global, hub: &Hub<L>, workers: usize, door: &mut Few<'_, R>) -> Vec<Pass<L>>
-    requires some { 1 ≤ workers }
-    requires most { workers ≤ 4096 }
-{
-    match serve_players(rt, alloc, door, workers, &Stopped, &Open, &Dropped, hub) {
+>(
+    rt: &R,
+    alloc: Global,
+    hub: &Hub<L>,
+    bells: &Bells,
+    listener: &mut Few<'_, R>,
+    idle: u64,
+) -> Vec<Pass<L>> {
+    let service = Service {
+        rt,
+        alloc,
+        clock: &Stopped,
+        gate: &Open,
+        sink: &Dropped,
+        bell: &bells,
+        hub,
+    };
+    match serve_players(&service, listener, bells, idle) {
         Ok(passes) => passes,
         Err((passes, _fault)) => passes,
     }
 }
 
-/// Serves three players with one worker, after a segment was published. Returns the totals.
+/// Serves three players with one poller, after a segment was published. Returns the totals.
 fn serve_three<
     L: Ledgers + Send + Sync,
     R: Net<Listener = TcpListener, Stream = TcpStream>
@@ -121,15 +133,16 @@ fn serve_three<
     requires names { blanks ≡ L.names }
     requires channels { L.channels ≡ 1 }
 {
-    let mut door = Few::open(rt, Role::Player, 3);
-    let address = door.address(rt);
+    let mut listener = Few::open(rt, Role::Player, 3);
+    let address = listener.address(rt);
     let hub: Hub<L> = hub_of_one(rt, alloc, blanks);
+    let bells = Bells::new(rt, alloc, 1, 1).expect(rt, "a bell");
     let mut pass = seat(rt, &hub);
     published(rt, alloc, &hub, &mut pass, 0, SEGMENT);
     let ((), mut passes) = thread::join(
         rt,
         || ask_in_turn(rt, alloc, address),
-        || admit(rt, alloc, &hub, 1, &mut door),
+        || admit(rt, alloc, &hub, &bells, &mut listener, LONG),
     );
     passes.push(pass).expect(rt, "passes");
     finished(rt, alloc, hub, passes)
@@ -149,62 +162,51 @@ fn serve_waiting<
     requires names { blanks ≡ L.names }
     requires channels { L.channels ≡ 1 }
 {
-    let mut door = Few::open(rt, Role::Player, 3);
-    let address = door.address(rt);
+    let mut listener = Few::open(rt, Role::Player, 3);
+    let address = listener.address(rt);
     let hub: Hub<L> = hub_of_one(rt, alloc, blanks);
+    let bells = Bells::new(rt, alloc, 2, 1).expect(rt, "bells");
     let mut pass = seat(rt, &hub);
     published(rt, alloc, &hub, &mut pass, 0, SEGMENT);
     let ((), mut passes) = thread::join(
         rt,
-        || wait_and_ask(rt, alloc, address, &hub, &mut pass),
-        || admit(rt, alloc, &hub, 8, &mut door),
+        || wait_and_ask(rt, alloc, address, &hub, &bells, &mut pass),
+        || admit(rt, alloc, &hub, &bells, &mut listener, LONG),
     );
     passes.push(pass).expect(rt, "passes");
     finished(rt, alloc, hub, passes)
 }
 
-/// A sink that takes a chunk until another player was answered, which `met` counts, or the turns are over.
-#[derive(Drop)]
-struct Slow {
-    taking: AtomicU64,
-    answered: AtomicU64,
-    met: AtomicU64,
+/// Compares the next answer to a player with `answer`, and then waits until its connection is closed.
+fn check_closed(rt: &impl Abort, alloc: Global, player: &TcpStream, answer: &str) {
+    check_answer(rt, alloc, player, answer);
+    let mut socket = player;
+    let mut rest = Vec::new(alloc);
+    let count = socket.read_to_end(&mut rest).expect(rt, "the end");
+    assert!(rt; count == 0);
 }
 
-impl Sink for &Slow {
-    fn take(&mut self, _channel: usize, _chunk: Chunk) {
-        add_one(&self.taking);
-        if comes_to(&self.answered, 1) {
-            add_one(&self.met);
-        }
-    }
-}
-
-/// While a record is handed out, lets one player ask for its channel, and another for a channel that isn't there. The second is answered meanwhile.
-fn ask_meanwhile<R: Net<Listener = TcpListener, Stream = TcpStream> + Wait + Clock + Abort>(
+/// Lets a player wait for a segment until another, which asks after it and then is idle, is closed.
+fn wait_and_be_idle<L: Ledgers, R: Net<Listener = TcpListener, Stream = TcpStream> + Wait + Abort>(
     rt: &R,
     alloc: Global,
     address: SocketAddr,
-    slow: &Slow,
+    hub: &Hub<L>,
+    bells: &Bells,
+    pass: &mut Pass<L>,
 ) {
-    comes_to(&slow.taking, 1);
-    let player = connect(rt, address).expect(rt, "a connection");
-    ask(rt, &player, GET);
-    thread::sleep(rt, Duration::from_millis(100));
-    let other = exchange(rt, alloc, address, GET_OTHER).expect(rt, "an answer");
-    same(
-        rt,
-        "another",
-        text_of(&other).get(..12).unwrap_or(""),
-        "HTTP/1.1 404",
-    );
-    add_one(&slow.answered);
-    check_answer(rt, alloc, &player, ANSWER);
+    let waiting = connect(rt, address).expect(rt, "a connection");
+    ask(rt, &waiting, GET_SECOND);
+    let idle = connect(rt, address).expect(rt, "a connection");
+    ask(rt, &idle, GET);
+    check_closed(rt, alloc, &idle, ANSWER);
+    published_rung(rt, alloc, hub, &mut &*bells, pass, 0, SEGMENT);
+    let now = exchange(rt, alloc, address, GET).expect(rt, "an answer");
+    check_answer(rt, alloc, &waiting, text_of(&now));
 }
 
-/// Hands out the record of a channel while two players ask; of the four workers, one at a time is on the lookout. Returns how often the sink saw that the
-/// other player was answered.
-fn serve_beside_a_record<
+/// Serves a player that waits, one that is idle and a third, after a segment was published. Returns the totals.
+fn serve_idle<
     L: Ledgers + Send + Sync,
     R: Net<Listener = TcpListener, Stream = TcpStream>
         + Threads
@@ -213,55 +215,42 @@ fn serve_beside_a_record<
         + Eprint
         + Abort
         + Sync,
->(rt: &R, alloc: Global, blanks: Blanks) -> u64
+>(rt: &R, alloc: Global, blanks: Blanks) -> String
     requires names { blanks ≡ L.names }
     requires channels { L.channels ≡ 1 }
 {
-    let mut door = Few::open(rt, Role::Player, 2);
-    let address = door.address(rt);
+    let mut listener = Few::open(rt, Role::Player, 3);
+    let address = listener.address(rt);
     let hub: Hub<L> = hub_of_one(rt, alloc, blanks);
+    let bells = Bells::new(rt, alloc, 1, 1).expect(rt, "a bell");
     let mut pass = seat(rt, &hub);
     published(rt, alloc, &hub, &mut pass, 0, SEGMENT);
-    let slow = Slow {
-        taking: AtomicU64::new(0),
-        answered: AtomicU64::new(0),
-        met: AtomicU64::new(0),
-    };
-    let (handed, ((), mut passes)) = thread::join(
+    let ((), mut passes) = thread::join(
         rt,
-        || hub.rotate_to(rt, 0, &mut &slow),
-        || {
-            thread::join(
-                rt,
-                || ask_meanwhile(rt, alloc, address, &slow),
-                || admit(rt, alloc, &hub, 4, &mut door),
-            )
-        },
+        || wait_and_be_idle(rt, alloc, address, &hub, &bells, &mut pass),
+        || admit(rt, alloc, &hub, &bells, &mut listener, 1),
     );
-    handed.expect(rt, "a record");
     passes.push(pass).expect(rt, "passes");
-    let totals = finished(rt, alloc, hub, passes);
-    same(rt, "the totals", totals.as_str(), "1 1 0;");
-    slow.met.into_inner()
+    finished(rt, alloc, hub, passes)
 }
 
-/// Connections at rest take no worker.
+/// Idle connections take no thread.
 #[test]
-fn one_worker_serves_many(rt: HostRuntime) {
+fn one_poller_serves_many(rt: HostRuntime) {
     let totals = serve_three::<Brand, HostRuntime>(&rt, rt.alloc(), Blanks::new());
     same(&rt, "the totals", totals.as_str(), "1 6 0;");
 }
 
-/// A request that is held keeps nobody else waiting, and its connection goes back to those at rest.
+/// A request that is held keeps nobody else waiting.
 #[test]
 fn others_are_served_meanwhile(rt: HostRuntime) {
     let totals = serve_waiting::<Brand, HostRuntime>(&rt, rt.alloc(), Blanks::new());
     same(&rt, "the totals", totals.as_str(), "2 15 0;");
 }
 
-/// A record that is handed out keeps nobody else waiting.
+/// A connection that is idle for too long is closed; one whose request is held isn't idle.
 #[test]
-fn others_are_served_beside_a_record(rt: HostRuntime) {
-    let met = serve_beside_a_record::<Brand, HostRuntime>(&rt, rt.alloc(), Blanks::new());
-    same_number(&rt, "the others", met, 1);
+fn idle_players_are_closed(rt: HostRuntime) {
+    let totals = serve_idle::<Brand, HostRuntime>(&rt, rt.alloc(), Blanks::new());
+    same(&rt, "the totals", totals.as_str(), "2 3 0;");
 }

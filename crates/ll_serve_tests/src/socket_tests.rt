@@ -1,11 +1,11 @@
 //! A test of publishers and players over sockets of one machine.
 ghost use Rattle.std.specs.Prelude.{◌≡◌};
 
-use crate::hubs::{Stopped, finished, hub_of_one};
+use crate::hubs::{finished, hub_of_one};
 use crate::media_tests::{GETS, GOT, LINES, TAKEN};
 use crate::rows::same;
-use crate::wires::{ANSWER, Dropped, GET, LINE, Open, text_of};
-use ll_device::{Door, Socket};
+use crate::wires::{ANSWER, GET, LINE, service, text_of};
+use ll_device::{Listener, Socket};
 use ll_hub::{Blanks, Hub, Ledgers, Pass};
 use ll_serve::{Role, Source, serve_links};
 use std::alloc::Global;
@@ -21,10 +21,10 @@ use std::{io, thread};
 /// How long a read may take, in seconds.
 const LIMIT: u64 = 20;
 
-/// A door through which a limited number of connections comes in.
+/// A listener through which a limited number of connections comes in.
 #[derive(Drop)]
 pub(crate) struct Few<'a, R> {
-    door: Door<'a, R>,
+    listener: Listener<'a, R>,
     left: u64,
 }
 
@@ -33,14 +33,14 @@ impl<'a, R: Net<Listener = TcpListener, Stream = TcpStream> + Abort> Few<'a, R> 
     pub(crate) fn open(rt: &'a R, role: Role, count: u64) -> Few<'a, R> {
         let address = SocketAddrV4::new(Ipv4Addr::LOCALHOST, 0);
         Few {
-            door: Door::open(rt, address, role).expect(rt, "a door"),
+            listener: Listener::open(rt, address, role).expect(rt, "a listener"),
             left: count,
         }
     }
 
     /// Returns the address at which it listens.
     pub(crate) fn address(&self, rt: &R) -> SocketAddr {
-        self.door.address().expect(rt, "its address")
+        self.listener.address().expect(rt, "its address")
     }
 }
 
@@ -49,7 +49,7 @@ impl<R: Net<Listener = TcpListener, Stream = TcpStream> + Eprint + Clock> Source
 
     fn next(&mut self) -> Option<Socket> {
         self.left = self.left.checked_sub(1)?;
-        self.door.next()
+        self.listener.next()
     }
 }
 
@@ -116,12 +116,12 @@ fn talk<R: Net<Listener = TcpListener, Stream = TcpStream> + Abort>(
     check_exchange(rt, alloc, players, GETS, GOT);
 }
 
-/// Serves those who come in by `door` with one worker. Returns the passes that come back.
+/// Serves those who come in by `listener` with one worker. Returns the passes that come back.
 fn admit<
     L: Ledgers + Send + Sync,
     R: Net<Listener = TcpListener, Stream = TcpStream> + Threads + Wait + Clock + Eprint + Sync,
->(rt: &R, alloc: Global, hub: &Hub<L>, role: Role, door: &mut Few<'_, R>) -> Vec<Pass<L>> {
-    match serve_links(rt, alloc, role, door, 1, &Stopped, &Open, &Dropped, hub) {
+>(rt: &R, alloc: Global, hub: &Hub<L>, role: Role, listener: &mut Few<'_, R>) -> Vec<Pass<L>> {
+    match serve_links(&service(rt, alloc, hub), role, listener, 1) {
         Ok(passes) => passes,
         Err((passes, _fault)) => passes,
     }

@@ -1,10 +1,11 @@
 //! Connections in memory, of whose reads and writes any can be short or fail.
-ghost use Rattle.std.specs.Prelude.{◌+◌, ◌≤◌, None, if◌then◌else◌, length};
+ghost use Rattle.std.specs.Prelude.{◌≡◌, ◌+◌, ◌≤◌, None, if◌then◌else◌, length};
 
+use crate::hubs::{Silent, Stopped};
 use ll_device::{Failed, Writer};
-use ll_hub::Sink;
+use ll_hub::{Hub, Ledgers, Sink};
 use ll_record::Chunk;
-use ll_serve::{Gate, Link};
+use ll_serve::{Gate, Link, Service};
 use std::alloc::{AllocError, Global};
 use std::str;
 
@@ -48,6 +49,25 @@ pub(crate) struct Dropped;
 
 impl Sink for Dropped {
     fn take(&mut self, _channel: usize, _chunk: Chunk) {}
+}
+
+/// Returns a service of `hub` whose clock shows 0, whose gate is open, whose sink drops its chunks, and whose bell nobody hears.
+pub(crate) fn service<'a, L: Ledgers, R>(
+    rt: &'a R,
+    alloc: Global,
+    hub: &'a Hub<L>,
+) -> Service<'a, L, Stopped, Open, Dropped, Silent, R>
+    ensures { result.hub.now ≡ hub.now }
+{
+    Service {
+        rt,
+        alloc,
+        clock: &Stopped,
+        gate: &Open,
+        sink: &Dropped,
+        bell: &Silent,
+        hub,
+    }
 }
 
 /// How a connection gives and takes its bytes.

@@ -1,12 +1,14 @@
 //! Tests of workers and the connections that they serve.
 ghost use Rattle.std.specs.Prelude.{◌≡◌, ◌≤◌, None};
 
-use crate::hubs::{SEGMENT, Stopped, add_one, comes_to, finished, hub_of_one, published, seat};
+use crate::hubs::{
+    SEGMENT, Silent, Stopped, add_one, comes_to, finished, hub_of_one, published, seat,
+};
 use crate::rows::{same, same_number};
 use crate::wires::{ANSWER, Dropped, GET, Open, text_of};
 use ll_device::{Failed, Writer};
 use ll_hub::{Blanks, Hub, Ledgers, Pass};
-use ll_serve::{Gate, Link, Role, Source, serve_links};
+use ll_serve::{Gate, Link, Role, Service, Source, serve_links};
 use std::alloc::Global;
 use std::marker::Brand;
 use std::process::Abort;
@@ -154,17 +156,16 @@ fn serve_boxes<L: Ledgers + Send + Sync, G: Gate + Sync, R: Threads + Wait + Clo
         given: 0,
         at_a_time,
     };
-    match serve_links(
+    let service = Service {
         rt,
         alloc,
-        Role::Player,
-        &mut peers,
-        workers,
-        &Stopped,
+        clock: &Stopped,
         gate,
-        &Dropped,
+        sink: &Dropped,
+        bell: &Silent,
         hub,
-    ) {
+    };
+    match serve_links(&service, Role::Player, &mut peers, workers) {
         Ok(passes) => passes,
         Err((passes, _fault)) => passes,
     }

@@ -4,7 +4,7 @@ ghost use Rattle.std.specs.Prelude.{◌≡◌};
 use crate::calendar::SystemCalendar;
 use ll_announce::{Names, Said, Standing};
 use ll_command::{Fault, Plan};
-use ll_device::{CountedReader, Dial};
+use ll_device::{Connector, CountedReader};
 use ll_push::{Ending, Target, Watch, push};
 use std::io::{self, IsTerminal};
 use std::net::SocketAddrV4;
@@ -144,7 +144,7 @@ pub(crate) fn publish<L: Ledger, M: Ledger>(
 {
     let mut source: CountedReader<io::Stdin, L> = CountedReader::new(rt.stdin(), reads);
     let mut clock: SystemCalendar<'_, HostRuntime, M> = SystemCalendar::new(rt, times);
-    let mut origin = Dial::new(rt, address, Duration::from_secs(plan.retry));
+    let mut origin = Connector::new(rt, address, Duration::from_secs(plan.retry));
     let mut meter = Meter::new(rt, rt.stderr().is_terminal());
     let target = Target {
         names,

@@ -1,12 +1,13 @@
 //! Runs the server: serves players and publishers, and keeps the channels' time, records and numbers.
+ghost use denote.Param.Send.{IsSend};
 ghost use Rattle.std.specs.Prelude.{◌≡◌, ◌≤◌, ◌^◌, length};
 
 use ll_command::Fault;
-use ll_device::Door;
+use ll_device::Listener;
 use ll_format::UtcTime;
-use ll_hub::{Blanks, Clock, Hub, HubFault, Ledgers, Pass, Sink};
+use ll_hub::{Bell, Blanks, Clock, Hub, HubFault, Ledgers, Pass, Sink};
 use ll_item::Settings;
-use ll_serve::{Role, serve_links, serve_players};
+use ll_serve::{Bells, Gate, Role, Service, serve_links, serve_players};
 use ll_server::{CHANNELS, Config, ConfigFault, Log, Numbers, Records, Workers};
 use std::alloc::{AllocError, Global};
 use std::fs::File;
@@ -20,6 +21,9 @@ use std::{thread, time};
 
 /// The time between two readings of the clock that the channels take, in milliseconds.
 const TICK: u64 = 250;
+
+/// How long a player may be idle before its connection is closed, in seconds.
+const IDLE: u64 = 30;
 
 /// The number of readings after which the records are handed out, if they are kept: every 10 seconds. What wasn't handed out when the
 /// server stops is lost.
@@ -70,16 +74,34 @@ pub(crate) fn serve<
         + Sync,
 >(rt: &R, alloc: Global, settings: &[u8]) -> Result<(), Fault> {
     let config = read_config(alloc, settings)?;
-    let mut players = open_door(rt, config.players, Role::Player)?;
-    let mut publishers = open_door(rt, config.publishers, Role::Publisher)?;
+    let mut players = open_listener(rt, config.players, Role::Player)?;
+    let mut publishers = open_listener(rt, config.publishers, Role::Publisher)?;
     let server = open_server(rt, alloc, &config)?;
-    host::<Brand, R>(
-        &server,
-        config.channels,
-        Blanks::new(),
-        &mut players,
-        &mut publishers,
-    )
+    let ((), done) = thread::join(
+        rt,
+        || server.records.write_on(),
+        || serve_channels(&server, config, &mut players, &mut publishers),
+    );
+    done
+}
+
+/// Serves the channels of `config` to those who connect at the two listeners. Then ends the queue of the records.
+fn serve_channels<
+    R: Net<Listener = TcpListener, Stream = TcpStream>
+        + Eprint
+        + time::Clock
+        + Threads
+        + Wait
+        + Sync,
+>(
+    server: &Server<'_, R>,
+    config: Config,
+    players: &mut Listener<'_, R>,
+    publishers: &mut Listener<'_, R>,
+) -> Result<(), Fault> {
+    let done = host::<Brand, R>(server, config.channels, Blanks::new(), players, publishers);
+    server.records.end();
+    done
 }
 
 /// Reads a settings file.
@@ -92,13 +114,13 @@ fn read_config(alloc: Global, settings: &[u8]) -> Result<Config, Fault> {
 }
 
 /// Listens at `address`.
-fn open_door<'a, R: Net<Listener = TcpListener, Stream = TcpStream>>(
+fn open_listener<'a, R: Net<Listener = TcpListener, Stream = TcpStream>>(
     rt: &'a R,
     address: SocketAddrV4,
     role: Role,
-) -> Result<Door<'a, R>, Fault> {
-    match Door::open(rt, address, role) {
-        Ok(door) => Ok(door),
+) -> Result<Listener<'a, R>, Fault> {
+    match Listener::open(rt, address, role) {
+        Ok(listener) => Ok(listener),
         Err(_) => Err(Fault::Listen),
     }
 }
@@ -136,7 +158,7 @@ fn server_from<'a, R: Files<File = File> + Eprint>(
     })
 }
 
-/// Serves `channels` to those who connect at the two doors.
+/// Serves `channels` to those who connect at the two listeners.
 fn host<
     L: Ledgers + Send + Sync,
     R: Net<Listener = TcpListener, Stream = TcpStream>
@@ -149,8 +171,8 @@ fn host<
     server: &Server<'_, R>,
     channels: Vec<Settings>,
     blanks: Blanks,
-    players: &mut Door<'_, R>,
-    publishers: &mut Door<'_, R>,
+    players: &mut Listener<'_, R>,
+    publishers: &mut Listener<'_, R>,
 ) -> Result<(), Fault>
     requires some { 1 ≤ length channels.items }
     requires most { length channels.items ≤ 1024 }
@@ -160,23 +182,25 @@ fn host<
     let (Ok(asked), Ok(told)) = (players.address(), publishers.address()) else {
         return Err(Fault::Listen);
     };
+    let pollers = pollers(server.rt, server.workers);
+    let Ok(bells) = Bells::new(server.rt, server.alloc, pollers, channels.len()) else {
+        return Err(Fault::Memory);
+    };
     let Ok(hub) = Hub::<L>::new(server.alloc, channels, blanks) else {
         return Err(Fault::Memory);
     };
     let _ = eprintln!(server.rt; "llhls: players on {asked}");
     let _ = eprintln!(server.rt; "llhls: publishers on {told}");
-    let shared = &hub;
-    let (_ticked, (served, fed)) = thread::join(
-        server.rt,
-        || server.keep_time(shared),
-        || {
-            thread::join(
-                server.rt,
-                || server.admit(players, shared),
-                || server.admit(publishers, shared),
-            )
-        },
-    );
+    let service = Service {
+        rt: server.rt,
+        alloc: server.alloc,
+        clock: &server.watch,
+        gate: &server.numbers,
+        sink: &&server.records,
+        bell: &&bells,
+        hub: &hub,
+    };
+    let (served, fed) = server.work(&service, players, publishers, &bells);
     let (mut passes, served) = served;
     let (more, fed) = fed;
     let mut all = served.is_none() && fed.is_none();
@@ -189,6 +213,20 @@ fn host<
     }
 }
 
+/// Returns how many pollers serve players: one for each processor, and no more than there are `workers`.
+fn pollers<R: Threads>(rt: &R, workers: Workers) -> usize
+    ensures { 1 ≤ result }
+{
+    let processors = match thread::available_parallelism(rt) {
+        Ok(count) => count.get(),
+        Err(_) => 1,
+    };
+    processors.min(workers.count).max(1)
+}
+
+/// The passes with which connections were served, and the fault if they aren't all there.
+type Served<L> = (Vec<Pass<L>>, Option<HubFault>);
+
 impl<
     R: Net<Listener = TcpListener, Stream = TcpStream>
         + Eprint
@@ -197,43 +235,81 @@ impl<
         + Wait
         + Sync,
 > Server<'_, R> {
-    /// Serves those who connect at `door`. Returns the workers' passes, and the fault if they aren't all there.
-    fn admit<L: Ledgers + Send + Sync>(
+    /// Serves those who connect at the two listeners, and keeps the time. Returns the passes of those who serve players, and of those who
+    /// serve publishers, each with the fault if they aren't all there.
+    fn work<
+        L: Ledgers + Send + Sync,
+        C: Clock + Sync,
+        G: Gate + Sync,
+        K: Sink + Sync,
+        B: Bell + Sync,
+    >(
         &self,
-        door: &mut Door<'_, R>,
-        hub: &Hub<L>,
-    ) -> (Vec<Pass<L>>, Option<HubFault>) {
-        let (role, workers) = (door.role(), self.workers.count);
-        let served = match role {
-            Role::Player => serve_players(
-                self.rt,
-                self.alloc,
-                door,
-                workers,
-                &self.watch,
-                &self.numbers,
-                &&self.records,
-                hub,
-            ),
-            Role::Publisher => serve_links(
-                self.rt,
-                self.alloc,
-                role,
-                door,
-                workers,
-                &self.watch,
-                &self.numbers,
-                &&self.records,
-                hub,
-            ),
-        };
+        service: &Service<'_, L, C, G, K, B, R>,
+        players: &mut Listener<'_, R>,
+        publishers: &mut Listener<'_, R>,
+        bells: &Bells,
+    ) -> (Served<L>, Served<L>) {
+        let (_ticked, served) = thread::join(
+            self.rt,
+            || self.keep_time(service),
+            ||
+                requires { IsSend L.row }
+            {
+                thread::join(
+                    self.rt,
+                    ||
+                        requires { IsSend L.row }
+                    { self.admit_players(service, players, bells) },
+                    ||
+                        requires { IsSend L.row }
+                    { self.admit_publishers(service, publishers) },
+                )
+            },
+        );
+        served
+    }
+
+    /// Serves the players who connect at `listener`. Returns the pollers' passes, and the fault if they aren't all there.
+    fn admit_players<
+        L: Ledgers + Send + Sync,
+        C: Clock + Sync,
+        G: Gate + Sync,
+        K: Sink + Sync,
+        B: Bell + Sync,
+    >(
+        &self,
+        service: &Service<'_, L, C, G, K, B, R>,
+        listener: &mut Listener<'_, R>,
+        bells: &Bells,
+    ) -> Served<L> {
+        self.report("players", serve_players(service, listener, bells, IDLE))
+    }
+
+    /// Serves the publishers who connect at `listener`. Returns the workers' passes, and the fault if they aren't all there.
+    fn admit_publishers<
+        L: Ledgers + Send + Sync,
+        C: Clock + Sync,
+        G: Gate + Sync,
+        K: Sink + Sync,
+        B: Bell + Sync,
+    >(&self, service: &Service<'_, L, C, G, K, B, R>, listener: &mut Listener<'_, R>) -> Served<L> {
+        let workers = self.workers.count;
+        self.report(
+            "publishers",
+            serve_links(service, Role::Publisher, listener, workers),
+        )
+    }
+
+    /// Returns the passes of `served`, and its fault, which it says on standard error; `whose` connections aren't served then.
+    fn report<L: Ledgers>(
+        &self,
+        whose: &str,
+        served: Result<Vec<Pass<L>>, (Vec<Pass<L>>, HubFault)>,
+    ) -> Served<L> {
         match served {
             Ok(passes) => (passes, None),
             Err((passes, fault)) => {
-                let whose = match role {
-                    Role::Player => "players",
-                    Role::Publisher => "publishers",
-                };
                 let _ = eprintln!(self.rt; "llhls: {whose} are not served: {fault}");
                 (passes, Some(fault))
             }
@@ -241,11 +317,14 @@ impl<
     }
 
     /// Passes the channels the time, again and again. Hands out their records and writes their numbers now and then, if these are kept.
-    fn keep_time<L: Ledgers>(&self, hub: &Hub<L>) {
+    fn keep_time<L: Ledgers, C, G, K: Sink, B: Bell>(
+        &self,
+        service: &Service<'_, L, C, G, K, B, R>,
+    ) {
         for _ in self.rt.forever() {
             for _ in 0..ROUNDS {
-                self.tick(hub);
-                self.hand_out(hub);
+                self.tick(service);
+                self.hand_out(service);
             }
             self.write_numbers();
         }
@@ -272,25 +351,26 @@ impl<
     }
 
     /// Passes the channels the time as often as that is done between two hand-outs of the records.
-    fn tick<L: Ledgers>(&self, hub: &Hub<L>) {
+    fn tick<L: Ledgers, C, G, K: Sink, B: Bell>(&self, service: &Service<'_, L, C, G, K, B, R>) {
         for _ in 0..TICKS {
-            self.tell(hub);
+            self.tell(service);
             thread::sleep(self.rt, Duration::from_millis(TICK));
         }
     }
 
     /// Passes the channels the time once. If one refuses it, because its record is full or it is out of memory, hands out its record and
     /// passes it the time again; if it refuses again, goes on with those after it.
-    fn tell<L: Ledgers>(&self, hub: &Hub<L>) {
-        let ms = self.watch.now();
+    fn tell<L: Ledgers, C, G, K: Sink, B: Bell>(&self, service: &Service<'_, L, C, G, K, B, R>) {
+        let (hub, ms) = (service.hub, self.watch.now());
+        let mut bell = *service.bell;
         let (mut first, mut again) = (0, None);
         for _ in 0..2 * CHANNELS {
-            let Err(HubFault::Room { channel, .. }) = hub.tick_from(self.rt, first, ms) else {
+            let told = hub.tick_from(self.rt, &mut bell, first, ms);
+            let Err(HubFault::Room { channel, .. }) = told else {
                 return;
             };
-            if again != Some(channel)
-                && hub.rotate_to(self.rt, channel, &mut &self.records).is_ok()
-            {
+            let mut sink = *service.sink;
+            if again != Some(channel) && hub.rotate_to(self.rt, channel, &mut sink).is_ok() {
                 again = Some(channel);
                 first = channel;
             } else {
@@ -300,9 +380,10 @@ impl<
     }
 
     /// Hands out the record of each channel, if records are kept.
-    fn hand_out<L: Ledgers>(&self, hub: &Hub<L>) {
+    fn hand_out<L: Ledgers, C, G, K: Sink, B>(&self, service: &Service<'_, L, C, G, K, B, R>) {
         for channel in 0..self.records.len() {
-            let _ = hub.rotate_to(self.rt, channel, &mut &self.records);
+            let mut sink = *service.sink;
+            let _ = service.hub.rotate_to(self.rt, channel, &mut sink);
         }
     }
 }

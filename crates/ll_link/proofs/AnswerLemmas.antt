@@ -1,0 +1,158 @@
+-- Lines of a publisher that are refused before the room of a channel is asked, and the answers to the others.
+use Rattle.std.proofs.Common.{◌≡◌, ◌≢◌, ℕ, inr, List, Option, Some, None, Result, Ok, Err, true, length, nat_le, arith, refl, ap, sym, subst, ◌∙◌}
+use Rattle.std.proofs.lemmas.Option.{same_Some}
+use Rattle.std.specs.Prelude.{slice_get}
+use Rattle.ll_hub.specs.Calls.{IsItemRefused, IsPlace, IsPublishFault}
+use Rattle.ll_item.proofs.ChannelLemmas.{named-within}
+use Rattle.ll_item.specs.declared.item.Item.{Item}
+use Rattle.ll_item.specs.declared.item.ItemFault.{ItemFault}
+use Rattle.ll_publish.specs.Refusals.{item_refusal, out_of_memory}
+use Rattle.ll_publish.specs.declared.refusal.Refusal.{Refusal}
+use Rattle.ll_publish.specs.declared.refusal.Refusal.TheVariants as refusal
+use Rattle.ll_rendition.specs.declared.fault.PublishFault.{PublishFault}
+use Rattle.ll_item.specs.Channels.{channel_of_name}
+use Rattle.ll_item.specs.Items.{item_in, named}
+use Rattle.ll_item.specs.Settings.{Configuration}
+use Rattle.ll_hub_channel.specs.Told.{IsRefused, IsStanding}
+use Rattle.ll_hub_channel.specs.declared.fault.HubFault.{HubFault}
+use Rattle.ll_hub_channel.specs.declared.fault.HubFault.TheVariants as hub
+use Rattle.ll_hub_channel.specs.declared.fault.RoomFault.TheVariants as room
+use Rattle.ll_link.specs.declared.fault.LinkFault.TheVariants.{Hub}
+use Rattle.ll_hub.specs.Passes.{PassValue}
+use Rattle.ll_room.specs.StampedValue.{StampedValue}
+use Rattle.ll_link.specs.Heard.{heard_at, heard_in, unstamped}
+use Rattle.ll_link.specs.Answers.{IsAnswerIn, IsPlaceIn, IsReason, IsRuledOut, IsRuledOutIn, refused_before, refused_by, refused_in, refused_item, refused_name, refused_place}
+use Rattle.ll_link.specs.Publishing.{IsReplyTo}
+use Rattle.ll_item.specs.Media.{media_limit}
+use Rattle.ll_publish.specs.Line as says
+use Rattle.ll_publish.specs.declared.success.Success.TheVariants as success
+use Rattle.ll_verdict.specs.declared.standing.Standing.{Standing}
+
+pub refused_item-some : (read : Result Item ItemFault) (reason : Refusal) → refused_item read ≡ Some reason
+    → (fault : ItemFault) × (read ≡ Err fault) × (item_refusal fault ≡ reason)
+refused_item-some (Ok item) reason e = let none : None ≡ Some reason = e in absurd (cc)
+refused_item-some (Err fault) reason e = let some : Some (item_refusal fault) ≡ Some reason = e in (fault, refl, cc)
+
+-- the answer to an item, without whether a record was handed out for it
+abbrev pub told_answer : {A H F : Type 0} → Result (A × H) F → Result A F
+told_answer (Ok told) = Ok told.0
+told_answer (Err fault) = Err fault
+
+-- the answer to an item that a known channel can't read is this refusal
+pub told_once : {A H F : Type 0} (channels : List Configuration) (name text media : List ℕ) (place : ℕ) (c : Configuration) (told : Result (Result A Refusal × Option H) F)
+    (reason : Refusal)
+    → channel_of_name channels 0 name ≡ Some (place, c) → ((fault : ItemFault) → item_in c text media ≡ Err fault → told ≡ Ok (Err (item_refusal fault), None))
+    → refused_in (channel_of_name channels 0 name) text media ≡ Some reason → told_answer told ≡ Ok (Err reason)
+told_once channels name text media place c told reason k once e =
+    let known : refused_item (item_in c text media) ≡ Some reason = rw k at e in
+    let f = refused_item-some (item_in c text media) reason known in
+    ap told_answer (once f.0 f.1) ∙ ap (λ r. Ok (Err r)) f.2
+
+-- a channel that a name finds stands at its place
+pub named-at : (channels : List Configuration) (name : List ℕ) (place : ℕ) (c : Configuration) → channel_of_name channels 0 name ≡ Some (place, c)
+    → slice_get channels place ≡ Some c
+named-at channels name place c e =
+    let w = named-within channels 0 place name c e in
+    let same : place ≡ w.0 = omega (arith, w.1) in
+    ap (slice_get channels) same ∙ w.2
+
+-- an item that the hub refuses is refused by a rule of its channel, unless out of memory
+module _ (c : Configuration) (place : ℕ) (text media : List ℕ) (channels : List Configuration) (found : Item) (seen : List ℕ) where
+  module _ (known : slice_get channels place ≡ Some c) (read : item_in c text media ≡ Ok found) where
+    ruled-by : (reason : Refusal) (fault : PublishFault) → refusal.Rule fault ≡ reason → IsItemRefused channels place found seen fault → reason ≢ out_of_memory
+        → IsRuledOut c place seen text media reason
+    ruled-by reason fault is refused other = record {
+      item = found;
+      read = read;
+      seen = refused.seen;
+      pass = refused.known.pass;
+      fault = fault;
+      rule =
+          subst (λ s. IsRefused s found refused.seen fault) (same_Some refused.settings c (sym refused.known.channel ∙ known))
+          (refused.refused (λ memory. other (sym is ∙ ap refusal.Rule memory)));
+      told = sym is;
+    }
+
+    -- any other fault of the hub ends the connection
+    never : {A : Type 0} (reason : Refusal) → Ok reason ≡ Err Hub → A
+    never reason e = absurd (cc)
+
+    pub answer-refused : (fault : HubFault) (reason : Refusal) → Ok reason ≡ refused_by fault → IsPublishFault channels place found seen fault
+        → IsReason (refused_item (item_in c text media)) (IsRuledOut c place seen text media) reason
+    answer-refused (hub.Room other (room.Publish fault)) reason e p not =
+        inr (ruled-by reason fault (let same : Ok reason ≡ Ok (refusal.Rule fault) = e in cc) p.1 not)
+    answer-refused (hub.Room other (room.Ask fault)) reason e p not = never reason e
+    answer-refused (hub.Room other (room.Clock fault)) reason e p not = never reason e
+    answer-refused hub.UnknownChannel reason e p not = never reason e
+    answer-refused (hub.WentBack before found) reason e p not = never reason e
+    answer-refused hub.Stranger reason e p not = never reason e
+    answer-refused hub.Short reason e p not = never reason e
+    answer-refused hub.Memory reason e p not = never reason e
+
+-- a refusal changes nothing of a pass
+pub heard-refused : (found : Option (ℕ × Configuration)) (reason : Refusal) (pass : PassValue) → pass ≡ heard_in found (Err reason) pass
+heard-refused None reason pass = refl
+heard-refused (Some f) reason pass = refl
+
+-- if the first answer is a refusal, the pass is as it was before it
+pub heard-nothing : (place : ℕ) (first : Result (StampedValue ℕ) Refusal) (reason : Refusal) (pass before : PassValue) → first ≡ Err reason
+    → pass ≡ heard_at place (unstamped first) before → pass ≡ before
+heard-nothing place first reason pass before is e = e ∙ ap (λ r. heard_at place (unstamped r) before) is
+
+-- ---- the allowed answers to a line
+
+within : (channels : List Configuration) (name text media : List ℕ) → nat_le (length media) media_limit ≡ true
+    → refused_before channels (says.Item name text media) ≡ refused_in (channel_of_name channels 0 name) text media
+within channels name text media small = rw small refl
+
+-- an item with no more bytes than an item may have
+pub item_reply : (channels : List Configuration) (pass : PassValue) (name text media : List ℕ) (answer : Result (StampedValue ℕ) Refusal)
+    → nat_le (length media) media_limit ≡ true
+    → ((reason : Refusal) → refused_in (channel_of_name channels 0 name) text media ≡ Some reason → answer ≡ Err reason)
+    → IsAnswerIn channels pass.seen name text media answer → IsReplyTo channels pass (says.Item name text media) (unstamped answer)
+item_reply channels pass name text media (Ok mark) small refused told = record {
+  refused = λ reason e. let none : Ok mark ≡ Err reason = refused reason (sym (within channels name text media small) ∙ e) in absurd (cc);
+  told = (mark, refl, told);
+  ruled = tt;
+}
+item_reply channels pass name text media (Err reason) small refused told = record {
+  refused = λ other e. ap unstamped (refused other (sym (within channels name text media small) ∙ e));
+  told = tt;
+  ruled = subst (λ before. IsReason before (IsRuledOutIn channels pass.seen name text media) reason) (sym (within channels name text media small)) told;
+}
+
+-- a place
+place_told : (channels : List Configuration) (pass : PassValue) (name rendition : List ℕ) (s : Standing) → IsPlaceIn channels pass.seen name rendition s
+    → IsReplyTo channels pass (says.At name rendition) (Ok (success.Standing s))
+place_told channels pass name rendition s told = record {
+  refused = λ reason e. let none : None ≡ Some reason = sym (ap refused_name told.named) ∙ sym (ap (λ found. refused_place found rendition) told.known) ∙ e in absurd (cc);
+  told = told;
+  ruled = tt;
+}
+
+-- the place that the hub gives for the channel that the name finds
+pub place_found : (channels : List Configuration) (pass : PassValue) (name rendition after : List ℕ) (place : ℕ) (c : Configuration) (index : ℕ) (s : Standing)
+    → channel_of_name channels 0 name ≡ Some (place, c) → named c rendition ≡ Ok index → IsPlace channels place index pass.seen after s
+    → IsReplyTo channels pass (says.At name rendition) (Ok (success.Standing s))
+place_found channels pass name rendition after place c index s known is p =
+    let same = same_Some p.settings c (sym p.known.channel ∙ named-at channels name place c known) in
+    place_told channels pass name rendition s
+    (record {
+      place = place;
+      settings = c;
+      known = known;
+      index = index;
+      named = is;
+      seen = p.seen;
+      pass = p.known.pass;
+      stands = subst (λ k. IsStanding k index p.seen s) same p.stands;
+    })
+
+-- a line that is refused before any room is asked
+pub place_refused : (channels : List Configuration) (pass : PassValue) (name rendition : List ℕ) (reason : Refusal)
+    → refused_place (channel_of_name channels 0 name) rendition ≡ Some reason → IsReplyTo channels pass (says.At name rendition) (Err reason)
+place_refused channels pass name rendition reason before = record {
+  refused = λ other e. ap Err (same_Some reason other (sym before ∙ e));
+  told = tt;
+  ruled = before;
+}

@@ -1,0 +1,330 @@
+//! A publisher's connection: its lines are read, and what they announce is published and answered.
+ghost use Rattle.std.specs.Bool.{Decides};
+ghost use Rattle.std.specs.Prelude.{◌≡◌, ◌≢◌, ℕ, Err, IfErr, IfOk, IsErrOf, List, MatchResult, None, Ok, OnErr, OnOk, Option, Some, slice_get};
+ghost use Rattle.std.specs.Io.KnownBytes.{Appends};
+ghost use Rattle.ll_device.specs.Written.{AppendsPrefix};
+ghost use Rattle.ll_item.specs.Items.{item_in};
+ghost use Rattle.ll_publish.specs.Line as says;
+ghost use Rattle.ll_publish.specs.Meaning.{meant};
+ghost use Rattle.ll_publish.specs.Refusals.{item_refusal, reply_line};
+ghost use Rattle.ll_item.specs.Channels.{channel_of_name};
+ghost use Rattle.ll_link.specs.Answers.{IsAnswerAt, IsAnswerIn, refused_by, refused_in};
+ghost use Rattle.ll_hub.specs.Passes.{PassValue};
+ghost use Rattle.ll_link.specs.Faults.{IsOwn, IsTrue};
+ghost use Rattle.ll_link.specs.Heard.{heard, heard_at, heard_in, unstamped};
+ghost use Rattle.ll_link.specs.Publishing.{IsCutOff, IsReplyTo, IsServed};
+ghost use Rattle.ll_link.specs.Reads.{IsReadThrough, IsReadWithin};
+ghost use Rattle.ll_link.specs.Serving.{IsBroken, IsDrained, IsServing};
+
+use crate::fault::LinkFault;
+use crate::service::{HandedOut, Service};
+use ll_device::{Link, write_all};
+use ll_hub::{Bell, HubFault, Ledgers, Pass, RoomFault, Sink};
+use ll_item::{Item, ItemFault, Payload, Settings};
+use ll_publish::{Feed, Line, Refusal, Success, reply_text};
+use ll_room::Stamped;
+use ll_server::Gate;
+use ll_verdict::PublishFault;
+use std::sync::Wait;
+
+/// The answer to an item: how many items its channel has accepted with it, or why it is refused.
+type Published = Result<Stamped<u64>, Refusal>;
+
+/// The answer to a publisher's line.
+type Told = Result<Success, Refusal>;
+
+/// The most bytes that one read takes.
+const PIECE: usize = 65_536;
+
+/// Publishes what a publisher's lines announce, answers each line, and returns the number of answers. Fails after `reads` reads.
+// Not inlined, so that a thread that serves a player has no room for this buffer on its stack.
+#[inline(never)]
+pub(crate) fn serve<L: Ledgers, P: Link, C, G: Gate, K: Sink, B: Bell, R: Wait>(
+    service: &Service<'_, L, C, G, K, B, R>,
+    link: &mut P,
+    pass: &mut Pass<L>,
+    reads: u64,
+) -> Result<u64, LinkFault>
+    ensures faults { IsTrue result (P.failures link.old) (P.failures link.new) }
+    ensures few { IsReadWithin (P.inward link.old) (P.inward link.new) reads }
+    ensures endless { IsErrOf result LinkFault.Endless → IsReadThrough (P.inward link.old) (P.inward link.new) reads }
+    ensures served { OnOk result (IsServed service.now.hub.now pass.old pass.new (P.inward link.old) (P.inward link.new) (P.written link.old) (P.written link.new)) }
+    ensures cut_off { OnErr result (IsCutOff service.now.hub.now pass.old pass.new (P.inward link.old) (P.inward link.new) (P.written link.old) (P.written link.new)) }
+{
+    let mut feed = Feed::new(service.alloc);
+    let mut answers = 0;
+    let mut piece = [0; PIECE];
+    for _ in 0..reads {
+        let Ok(count) = link.read(&mut piece) else {
+            return Err(LinkFault::Read);
+        };
+        if count == 0 {
+            return Ok(answers);
+        }
+        feed.take(&piece[..count])?;
+        answer(service, link, pass, &mut feed, &mut answers)?;
+    }
+    Err(LinkFault::Endless)
+}
+
+/// Answers all whole lines of `feed`, and adds their number to `answers`.
+fn answer<L: Ledgers, P: Link, C, G: Gate, K: Sink, B: Bell, R: Wait>(
+    service: &Service<'_, L, C, G, K, B, R>,
+    link: &mut P,
+    pass: &mut Pass<L>,
+    feed: &mut Feed,
+    answers: &mut u64,
+) -> Result<(), LinkFault>
+    ensures faults { IsTrue result (P.failures link.old) (P.failures link.new) }
+    ensures unread { P.inward link.new ≡ P.inward link.old }
+    ensures other { IfErr result (λ fault. fault ≢ LinkFault.Endless) }
+    ensures served { OnOk result ((taken : List ℕ) (start : PassValue) (base : Option (List ℕ)) → IsServing service.now.hub.now taken feed.old start pass.old base (P.written link.old)
+        → IsDrained service.now.hub.now taken feed.new start pass.new base (P.written link.new)) }
+    ensures broken { OnErr result ((taken : List ℕ) (start : PassValue) (base : Option (List ℕ)) → IsServing service.now.hub.now taken feed.old start pass.old base (P.written link.old)
+        → IsBroken service.now.hub.now taken start pass.new base (P.written link.new)) }
+{
+    for _ in service.rt.forever() {
+        let Some(line) = feed.next() else {
+            return Ok(());
+        };
+        let reply = publish(service, pass, line)?;
+        *answers = answers.saturating_add(1);
+        service.gate.pass(*answers);
+        tell(service, link, &reply)?;
+    }
+    unreachable!()
+}
+
+/// Returns `answer` without its stamp.
+fn without_stamp(answer: Published) -> Told
+    ensures { result ≡ unstamped answer }
+{
+    match answer {
+        Ok(count) => Ok(Success::Accepted(count.into_inner())),
+        Err(reason) => Err(reason),
+    }
+}
+
+/// Sends `reply` as the line that answers a publisher's.
+fn tell<L: Ledgers, P: Link, C, G, K, B, R>(
+    service: &Service<'_, L, C, G, K, B, R>,
+    link: &mut P,
+    reply: &Told,
+) -> Result<(), LinkFault>
+    ensures faults { IsTrue result (P.failures link.old) (P.failures link.new) }
+    ensures unread { P.inward link.new ≡ P.inward link.old }
+    ensures other { IfErr result (λ fault. fault ≢ LinkFault.Endless) }
+    ensures sent { OnOk result (Appends (P.written link.old) (P.written link.new) (reply_line reply.now)) }
+    ensures cut { OnErr result (AppendsPrefix (P.written link.old) (P.written link.new) (reply_line reply.now)) }
+{
+    let text = reply_text(service.alloc, reply)?;
+    match write_all(link, text.as_bytes()) {
+        Ok(()) => Ok(()),
+        Err(_) => Err(LinkFault::Write),
+    }
+}
+
+/// Publishes the item that `line` announces, or looks up the place that it asks for, and returns the answer to the line.
+fn publish<L: Ledgers, C, G: Gate, K: Sink, B: Bell, R: Wait>(
+    service: &Service<'_, L, C, G, K, B, R>,
+    pass: &mut Pass<L>,
+    line: Line<'_>,
+) -> Result<Told, LinkFault>
+    ensures own { IsOwn result }
+    ensures right { IfOk result (IsReplyTo service.now.hub.now pass.old (meant line.entry)) }
+    ensures passed { IfOk result (λ told. pass.new ≡ heard service.now.hub.now (meant line.entry) told pass.old) }
+    ensures unchanged { OnErr result (pass.new ≡ pass.old) }
+{
+    match line {
+        Line::Item(name, text, bytes) => publish_bytes(service, pass, name, text, bytes),
+        Line::At(name, rendition) => place(service, pass, name, rendition),
+        Line::Bad => Ok(Err(Refusal::BadLine)),
+        Line::TooLong => Ok(Err(Refusal::LineTooLong)),
+        Line::MediaTooLong => Ok(Err(Refusal::MediaTooLong)),
+    }
+}
+
+/// Returns where the rendition named `rendition` of the channel named `name` stands, or why the line is refused.
+#[tactic(auto, using(crate::proofs::AnswerLemmas::place_found, crate::proofs::AnswerLemmas::place_refused))]
+fn place<L: Ledgers, C, G, K, B, R: Wait>(
+    service: &Service<'_, L, C, G, K, B, R>,
+    pass: &mut Pass<L>,
+    name: &str,
+    rendition: &str,
+) -> Result<Told, LinkFault>
+    ensures own { IsOwn result }
+    ensures right { IfOk result (IsReplyTo service.now.hub.now pass.old (says.At name.now rendition.now)) }
+    ensures passed { IfOk result (λ told. pass.new ≡ heard_in (channel_of_name service.now.hub.now 0 name.now) told pass.old) }
+    ensures unchanged { OnErr result (pass.new ≡ pass.old) }
+{
+    match service.hub.find(name) {
+        Some((channel, settings)) => match settings.named(rendition) {
+            Ok(index) => match service.hub.standing(service.rt, pass, channel, index) {
+                Ok(Some(standing)) => Ok(Ok(Success::Standing(standing))),
+                Ok(None) | Err(_) => Err(LinkFault::Hub),
+            },
+            Err(fault) => Ok(Err(Refusal::from(fault))),
+        },
+        None => Ok(Err(Refusal::UnknownChannel)),
+    }
+}
+
+/// Publishes the item that is spelled `text` and has the media `bytes`, in the channel named `name`, unless these are more than an item may
+/// have. Returns the answer to its line.
+#[tactic(auto, using(crate::proofs::AnswerLemmas::item_reply))]
+fn publish_bytes<L: Ledgers, C, G: Gate, K: Sink, B: Bell, R: Wait>(
+    service: &Service<'_, L, C, G, K, B, R>,
+    pass: &mut Pass<L>,
+    name: &str,
+    text: &str,
+    bytes: &[u8],
+) -> Result<Told, LinkFault>
+    ensures own { IsOwn result }
+    ensures right { IfOk result (IsReplyTo service.now.hub.now pass.old (says.Item name.now text.now bytes.now)) }
+    ensures passed { IfOk result (λ told. pass.new ≡ heard_in (channel_of_name service.now.hub.now 0 name.now) told pass.old) }
+    ensures unchanged { OnErr result (pass.new ≡ pass.old) }
+{
+    match Payload::of_bytes(bytes) {
+        Some(payload) => Ok(without_stamp(publish_item(service, pass, name, text, &payload)?)),
+        None => Ok(Err(Refusal::MediaTooLong)),
+    }
+}
+
+/// Publishes the item that is spelled `text` and has the media `payload`, in the channel named `name`, and returns the answer.
+fn publish_item<L: Ledgers, C, G: Gate, K: Sink, B: Bell, R: Wait>(
+    service: &Service<'_, L, C, G, K, B, R>,
+    pass: &mut Pass<L>,
+    name: &str,
+    text: &str,
+    payload: &Payload<'_>,
+) -> Result<Published, LinkFault>
+    ensures own { IsOwn result }
+    ensures refused { (reason : Refusal) → refused_in (channel_of_name service.now.hub.now 0 name.now) text.now payload.now ≡ Some reason → result ≡ Ok (Err reason) }
+    ensures told { IfOk result (IsAnswerIn service.now.hub.now pass.old.seen name.now text.now payload.now) }
+    ensures passed { IfOk result (λ answer. pass.new ≡ heard_in (channel_of_name service.now.hub.now 0 name.now) (unstamped answer) pass.old) }
+    ensures unchanged { OnErr result (pass.new ≡ pass.old) }
+{
+    let Some((channel, settings)) = service.hub.find(name) else {
+        return Ok(Err(Refusal::UnknownChannel));
+    };
+    match publish_to(service, pass, channel, settings, text, payload) {
+        Ok((answer, _)) => {
+            service.gate.published(channel, refusal_in(&answer));
+            Ok(answer)
+        }
+        Err(fault) => Err(fault),
+    }
+}
+
+/// Publishes the item that is spelled `text` and has the media `payload`, in the channel at place `channel`. If the record of the channel
+/// is full, hands that out and publishes the item once more. Returns the last answer, and whether the record was handed out.
+fn publish_to<L: Ledgers, C, G: Gate, K: Sink, B: Bell, R: Wait>(
+    service: &Service<'_, L, C, G, K, B, R>,
+    pass: &mut Pass<L>,
+    channel: usize,
+    settings: &Settings,
+    text: &str,
+    payload: &Payload<'_>,
+) -> Result<(Published, Option<HandedOut>), LinkFault>
+    requires known { slice_get service.now.hub.now channel ≡ Some settings.now }
+    ensures own { IsOwn result }
+    ensures refused { (fault : ItemFault) → item_in settings.now text.now payload.now ≡ Err fault → result ≡ Ok (Err (item_refusal fault), None) }
+    ensures full { IfOk result (λ told. told.0 ≡ Err (Refusal.Rule PublishFault.RecordFull) → told.1 ≡ Some channel) }
+    ensures told { IfOk result (λ told. IsAnswerAt settings.now channel pass.old.seen text.now payload.now told.0) }
+    ensures passed { IfOk result (λ told. pass.new ≡ heard_at channel (unstamped told.0) pass.old) }
+    ensures unchanged { OnErr result (pass.new ≡ pass.old) }
+{
+    let first = publish_once(service, pass, channel, settings, text, payload)?;
+    publish_again(service, pass, channel, settings, text, payload, first)
+}
+
+/// Returns `first`, the answer to an item, unless it says that the record of the channel is full; then hands that out, and publishes the
+/// item again. `before` is the pass before the first answer.
+fn publish_again<L: Ledgers, C, G: Gate, K: Sink, B: Bell, R: Wait>(
+    service: &Service<'_, L, C, G, K, B, R>,
+    pass: &mut Pass<L>,
+    channel: usize,
+    settings: &Settings,
+    text: &str,
+    payload: &Payload<'_>,
+    first: Published,
+) -> Result<(Published, Option<HandedOut>), LinkFault>
+    requires known { slice_get service.now.hub.now channel ≡ Some settings.now }
+    ensures own { IsOwn result }
+    ensures kept { first ≢ Err (Refusal.Rule PublishFault.RecordFull) → result ≡ Ok (first, None) }
+    ensures full { IfOk result (λ told. told.0 ≡ Err (Refusal.Rule PublishFault.RecordFull) → told.1 ≡ Some channel) }
+    ensures told { (before : PassValue) → pass.old ≡ heard_at channel (unstamped first) before → IsAnswerAt settings.now channel before.seen text.now payload.now first
+        → IfOk result (λ told. IsAnswerAt settings.now channel before.seen text.now payload.now told.0) }
+    ensures passed { (before : PassValue) → pass.old ≡ heard_at channel (unstamped first) before
+        → IfOk result (λ told. pass.new ≡ heard_at channel (unstamped told.0) before) }
+    ensures unchanged { (before : PassValue) → pass.old ≡ heard_at channel (unstamped first) before → OnErr result (pass.new ≡ before) }
+{
+    if !is_full(&first) {
+        return Ok((first, None));
+    }
+    let handed = service.hand_out(channel)?;
+    let second = publish_once(service, pass, channel, settings, text, payload)?;
+    Ok((second, Some(handed)))
+}
+
+/// Returns why an item was refused; `None` if it was accepted.
+fn refusal_in(answer: &Published) -> Option<Refusal> {
+    match answer {
+        Ok(_) => None,
+        Err(reason) => Some(*reason),
+    }
+}
+
+/// Returns whether an item was refused because the record of its channel is full.
+fn is_full(answer: &Published) -> bool
+    ensures { Decides result (answer.now ≡ Err (Refusal.Rule PublishFault.RecordFull)) }
+{
+    match answer {
+        Ok(_) => false,
+        Err(reason) => *reason == Refusal::Rule(PublishFault::RecordFull),
+    }
+}
+
+/// Publishes the item that is spelled `text` and has the media `payload`, in the channel at place `channel`, and returns the answer.
+fn publish_once<L: Ledgers, C, G, K, B: Bell, R: Wait>(
+    service: &Service<'_, L, C, G, K, B, R>,
+    pass: &mut Pass<L>,
+    channel: usize,
+    settings: &Settings,
+    text: &str,
+    payload: &Payload<'_>,
+) -> Result<Published, LinkFault>
+    requires known { slice_get service.now.hub.now channel ≡ Some settings.now }
+    ensures own { IsOwn result }
+    ensures refused { (fault : ItemFault) → item_in settings.now text.now payload.now ≡ Err fault → result ≡ Ok (Err (item_refusal fault)) }
+    ensures told { IfOk result (IsAnswerAt settings.now channel pass.old.seen text.now payload.now) }
+    ensures passed { IfOk result (λ answer. pass.new ≡ heard_at channel (unstamped answer) pass.old) }
+    ensures unchanged { OnErr result (pass.new ≡ pass.old) }
+{
+    let item = match Item::read(service.alloc, settings, text, payload) {
+        Ok(item) => item,
+        Err(fault) => return Ok(Err(Refusal::from(fault))),
+    };
+    let mut bell = *service.bell;
+    match service
+        .hub
+        .publish(service.rt, &mut bell, pass, channel, item)
+    {
+        Ok(count) => Ok(Ok(count)),
+        Err(fault) => Ok(Err(refusal(fault)?)),
+    }
+}
+
+/// Returns the answer to an item that the hub refused with `fault`, or [`LinkFault::Hub`] if that ends the connection.
+fn refusal(fault: HubFault) -> Result<Refusal, LinkFault>
+    ensures own { IsOwn result }
+    ensures answer { result ≡ refused_by fault }
+{
+    match fault {
+        HubFault::Room {
+            fault: RoomFault::Publish(fault),
+            ..
+        } => Ok(Refusal::from(fault)),
+        _ => Err(LinkFault::Hub),
+    }
+}

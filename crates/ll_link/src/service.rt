@@ -1,0 +1,58 @@
+//! What connections are served with, and the hand-out of a full record.
+ghost use Rattle.std.specs.Prelude.{◌≡◌, IfOk};
+ghost use Rattle.ll_link.specs.Faults.{IsOwn};
+
+use crate::fault::LinkFault;
+use ll_hub::{Hub, Ledgers, Sink};
+use ll_server::Gate;
+use std::alloc::Global;
+use std::marker::Model;
+use std::sync::Wait;
+
+/// What connections are served with. All connections of a hub share it.
+#[derive(Drop)]
+pub struct Service<'a, L: Ledgers, C, G, K, B, R> {
+    /// The runtime.
+    pub rt: &'a R,
+    /// The allocator of what connections keep.
+    pub alloc: Global,
+    /// The clock that requests read.
+    pub clock: &'a C,
+    /// The gate that each answer passes, which also learns what connections get.
+    pub gate: &'a G,
+    /// Where full records go.
+    pub sink: &'a K,
+    /// Who learns that replies became ready.
+    pub bell: &'a B,
+    /// The channels.
+    pub hub: &'a Hub<L>,
+}
+
+/// A token: the record of the channel at place `channel` was handed out. Only [`Service::hand_out`] makes one.
+#[derive(Drop)]
+pub(crate) struct HandedOut {
+    channel: usize,
+}
+
+impl Model for HandedOut {
+    ghost use Rattle.std.specs.Prelude.{ℕ};
+
+    ghost Value = { ℕ };
+
+    ghost view = { λ h. h.channel };
+}
+
+impl<L: Ledgers, C, G: Gate, K: Sink, B, R: Wait> Service<'_, L, C, G, K, B, R> {
+    /// Hands the full record of the channel at place `channel` to the sink.
+    pub(crate) fn hand_out(&self, channel: usize) -> Result<HandedOut, LinkFault>
+        ensures own { IsOwn result }
+        ensures place { IfOk result (λ handed. handed ≡ channel) }
+    {
+        self.gate.filled(channel);
+        let mut sink = *self.sink;
+        match self.hub.rotate_to(self.rt, channel, &mut sink) {
+            Ok(()) => Ok(HandedOut { channel }),
+            Err(_) => Err(LinkFault::Hub),
+        }
+    }
+}

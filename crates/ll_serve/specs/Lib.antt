@@ -1,7 +1,0 @@
--- The definitions that the contracts of this crate cite.
-pub mod Answers
-pub mod Faults
-pub mod Heard
-pub mod Publishing
-pub mod Reads
-pub mod Serving

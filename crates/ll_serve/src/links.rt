@@ -1,0 +1,241 @@
+//! Workers, each of which serves one connection at a time.
+ghost use denote.Param.Send.{IsSend, IsSync};
+ghost use Rattle.std.specs.Prelude.{◌≡◌, ◌<◌, ◌≤◌, ◌++◌, ◌∷◌, [], IfErr, IfOk, length};
+ghost use Rattle.std.specs.List.{All};
+ghost use Rattle.ll_hub.specs.Passes.{new_pass};
+
+use crossbeam_channel::{Receiver, Sender};
+use ll_device::{CountedLink, Link, Role, Source};
+use ll_hub::{Bell, Clock, Hub, HubFault, Ledgers, Pass, Sink};
+use ll_link::{Gate, Service, serve_link};
+use std::alloc::Global;
+use std::marker::Brand;
+use std::slice::IterMut;
+use std::sync::atomic::{AtomicU64, Ordering};
+use std::sync::ledger::{Blank, Ledger};
+use std::sync::{Mutex, Wait};
+use std::thread::Threads;
+use std::{thread, time};
+
+/// Serves the connections of `source` by `workers` workers, each of which serves one at a time, until `source` gives no more and all are
+/// served. A connection's fault ends that connection alone. Returns the workers' passes, which [`Hub::finish`] takes.
+///
+/// All passes are taken before the first connection. A worker is started when a connection comes while each started worker has one to
+/// serve, until all are started; it stays to the end. If the system starts no thread, the connection is served by the next worker that is
+/// free, or is closed if there is none, and the next such connection tries to start one again.
+///
+/// If it fails, it has taken no connection. It returns the passes that it has taken, fewer than `workers`, each of which has seen and
+/// counted nothing, and the reason:
+///
+/// 1. The hub has no more passes: Short.
+/// 2. Out of memory, also before the first pass was taken: Memory.
+pub fn serve_links<
+    L: Ledgers + Send + Sync,
+    S: Source + Send,
+    C: Clock + Sync,
+    G: Gate + Sync,
+    K: Sink + Sync,
+    B: Bell + Sync,
+    R: Threads + Wait + time::Clock + Sync,
+>(
+    service: &Service<'_, L, C, G, K, B, R>,
+    role: Role,
+    source: &mut S,
+    workers: usize,
+) -> Result<Vec<Pass<L>>, (Vec<Pass<L>>, HubFault)>
+    requires some { 1 ≤ workers }
+    requires most { workers ≤ 4096 }
+    ensures all { IfOk result (λ passes. length passes.items ≡ workers) }
+    ensures fewer { IfErr result (λ e. length e.0.items < workers) }
+    ensures untouched { IfErr result (λ e. All (λ p. p ≡ new_pass (length service.now.hub.now)) e.0.items) }
+{
+    let alloc = service.alloc;
+    let Ok((to, from)) = crossbeam_channel::unbounded::<S::Peer, Global>(alloc) else {
+        return Err((Vec::new(alloc), HubFault::Memory));
+    };
+    let passes = seats(service.rt, alloc, workers, service.hub)?;
+    let shift = Shift {
+        service,
+        role,
+        links: from,
+        open: AtomicU64::new(0),
+    };
+    Ok(share_out(&shift, to, source, passes))
+}
+
+/// Takes `workers` passes of `hub`. If it fails, returns those that were taken, and why there is no other.
+pub(crate) fn seats<L: Ledgers, R: Wait>(
+    rt: &R,
+    alloc: Global,
+    workers: usize,
+    hub: &Hub<L>,
+) -> Result<Vec<Pass<L>>, (Vec<Pass<L>>, HubFault)>
+    ensures all { IfOk result (λ passes. length passes.items ≡ workers) }
+    ensures fewer { IfErr result (λ e. length e.0.items < workers) }
+    ensures untouched { IfErr result (λ e. All (λ p. p ≡ new_pass (length hub.now)) e.0.items) }
+{
+    let mut passes = Vec::new(alloc);
+    for _ in 0..workers {
+        match one_more(rt, passes, hub) {
+            Ok(more) => passes = more,
+            Err(failed) => return Err(failed),
+        }
+    }
+    Ok(passes)
+}
+
+/// Takes a pass of `hub`, and puts it after `passes`. If it fails, returns `passes` as they were, and the reason.
+fn one_more<L: Ledgers, R: Wait>(
+    rt: &R,
+    passes: Vec<Pass<L>>,
+    hub: &Hub<L>,
+) -> Result<Vec<Pass<L>>, (Vec<Pass<L>>, HubFault)>
+    ensures taken { IfOk result (λ more. more.items ≡ passes.items ++ new_pass (length hub.now) ∷ []) }
+    ensures same { IfErr result (λ e. e.0.items ≡ passes.items) }
+{
+    let mut passes = passes;
+    if passes.reserve(1).is_err() {
+        return Err((passes, HubFault::Memory));
+    }
+    match hub.seat(rt) {
+        Ok(pass) => {
+            passes.push_reserved(pass);
+            Ok(passes)
+        }
+        Err(fault) => Err((passes, fault)),
+    }
+}
+
+/// What the workers of a source share.
+#[derive(Drop)]
+struct Shift<'a, L: Ledgers, P: Drop, C, G, K, B, R> {
+    service: &'a Service<'a, L, C, G, K, B, R>,
+    role: Role,
+    links: Receiver<P>,
+    /// The number of connections that were handed out and aren't served to their end.
+    open: AtomicU64,
+}
+
+impl<L: Ledgers, P: Link, C, G, K, B, R: Wait> Shift<'_, L, P, C, G, K, B, R> {
+    /// Returns whether each of `started` workers has a connection to serve, or one that waits for it.
+    fn is_busy(&self, started: u64) -> bool {
+        self.open.load(Ordering::SeqCst) >= started
+    }
+
+    /// Hands `link` to the workers, of which `started` were started. Closes it if that is none, or if out of memory.
+    fn hand_over(&self, to: &Sender<P>, link: P, started: u64) {
+        if started == 0 {
+            return;
+        }
+        self.open.fetch_add(1, Ordering::SeqCst);
+        if to.send(self.service.rt, link).is_err() {
+            self.open.fetch_sub(1, Ordering::SeqCst);
+        }
+    }
+}
+
+/// Serves the connections of `source` by at most one worker for each pass of `given`, and returns the passes.
+fn share_out<
+    L: Ledgers + Send + Sync,
+    S: Source,
+    C: Clock + Sync,
+    G: Gate + Sync,
+    K: Sink + Sync,
+    B: Bell + Sync,
+    R: Threads + Wait + time::Clock + Sync,
+>(
+    shift: &Shift<'_, L, S::Peer, C, G, K, B, R>,
+    to: Sender<S::Peer>,
+    source: &mut S,
+    given: Vec<Pass<L>>,
+) -> Vec<Pass<L>>
+    ensures { length result.items ≡ length given.items }
+{
+    let mut passes = given;
+    let workers = passes.len() as u64;
+    let seats = Mutex::new(passes.iter_mut());
+    feed(shift, to, source, &seats, workers);
+    drop(seats);
+    passes
+}
+
+/// Hands out the connections of `source`, and starts up to `workers` workers for them. Then drops the sender, and returns when all workers
+/// have ended.
+fn feed<
+    L: Ledgers + Send + Sync,
+    S: Source,
+    C: Clock + Sync,
+    G: Gate + Sync,
+    K: Sink + Sync,
+    B: Bell + Sync,
+    R: Threads + Wait + time::Clock + Sync,
+>(
+    shift: &Shift<'_, L, S::Peer, C, G, K, B, R>,
+    to: Sender<S::Peer>,
+    source: &mut S,
+    seats: &Mutex<IterMut<'_, Pass<L>>>,
+    workers: u64,
+) {
+    thread::scope(
+        thread::scope_env(),
+        shift.service.rt,
+        |scope|
+            requires { IsSync R.row × IsSync C.row × IsSync G.row × IsSync K.row × IsSync B.row × IsSync L.row × IsSend L.row × IsSend S.Peer.row }
+        {
+            let to = to;
+            let mut started = 0;
+            for _ in shift.service.rt.forever() {
+                let Some(link) = source.next() else {
+                    return;
+                };
+                let lacks = started < workers && shift.is_busy(started);
+                if lacks && scope.spawn(move || work(shift, seats)).is_ok() {
+                    started = started.saturating_add(1);
+                }
+                shift.hand_over(&to, link, started);
+            }
+            unreachable!()
+        },
+    );
+}
+
+/// Takes a pass, and serves one connection after another, until no more come.
+// It takes its pass itself: one that was moved into the closure of a thread would be lost if the thread isn't started.
+fn work<L: Ledgers, P: Link, C: Clock, G: Gate, K: Sink, B: Bell, R: Wait + time::Clock>(
+    shift: &Shift<'_, L, P, C, G, K, B, R>,
+    seats: &Mutex<IterMut<'_, Pass<L>>>,
+) {
+    let seat = seats.lock(shift.service.rt).next();
+    let Some(pass) = seat else {
+        return;
+    };
+    for _ in shift.service.rt.forever() {
+        let Ok(link) = shift.links.recv(shift.service.rt) else {
+            return;
+        };
+        serve_counted::<L, Brand, P, C, G, K, B, R>(shift, link, pass, Blank::new(2));
+        shift.open.fetch_sub(1, Ordering::SeqCst);
+    }
+    unreachable!()
+}
+
+/// Serves `link` to its end, and counts how it is read. Its fault is dropped.
+// Not inlined, so that a worker has touched little of its stack until it has a connection.
+#[inline(never)]
+fn serve_counted<
+    L: Ledgers,
+    M: Ledger,
+    P: Link,
+    C: Clock,
+    G: Gate,
+    K: Sink,
+    B: Bell,
+    R: Wait + time::Clock,
+>(shift: &Shift<'_, L, P, C, G, K, B, R>, link: P, pass: &mut Pass<L>, blank: Blank)
+    requires name { blank.name ≡ M.name }
+    requires parts { blank.parts ≡ M.parts }
+    requires two { blank.parts ≡ 2 }
+{
+    let mut counted: CountedLink<P, M> = CountedLink::new(link, blank);
+    let _ = serve_link(shift.service, shift.role, &mut counted, pass);
+}
