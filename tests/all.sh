@@ -86,7 +86,7 @@ if grep -q '\.edit: BAD EDIT' "$room/proofs"; then
 fi
 start tests/refused_calls.sh crates/ll_refused/out/ll_refused
 finish
-for name in serve edge watch; do
-    show "tests/$name.sh" "$program"
+for name in serve.py edge.sh watch.sh; do
+    show "tests/$name" "$program"
 done
 told_all

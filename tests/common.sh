@@ -105,17 +105,12 @@ servers=()
 log=$room/log
 
 # serve PROGRAM LINE..: starts a server on ports of the system's choice, with these lines of settings after them. Waits until it has printed both, and
-# sets `port` to that for players and `publish_port` to that for publishers. FILES limits its open files.
+# sets `port` to that for players and `publish_port` to that for publishers.
 serve() {
     local tries
     printf '%s\n' 'listen 127.0.0.1:0' 'publish 127.0.0.1:0' "${@:2}" >"$room/settings"
     : >"$log"
-    (
-        if [ -n "${FILES-}" ]; then
-            ulimit -n "$FILES"
-        fi
-        exec "$1" serve "$room/settings"
-    ) >"$room/stdout" 2>>"$log" &
+    "$1" serve "$room/settings" >"$room/stdout" 2>>"$log" &
     server=$!
     servers+=("$server")
     for ((tries = 0; tries < 200; tries++)); do

@@ -16,8 +16,9 @@ import time
 from push_inputs import beginning, damaged, fault_of, input_of, messages, pieces, published
 from push_model import Standing
 from push_peer import ALL_OK, address_of, held_port
-from push_room import Wrong, check, ended, try_all
+from push_room import PushRoom
 from push_rows import BAD_ANSWERS, BAD_PLACES, ELSEWHERE, GOES_ON_AFTER, HANGS_UP, ORIGIN_REFUSES, SERVER_REFUSES, STARTS, WRONG_WORDS
+from rooms import Wrong, check, ended, try_named
 
 HERE = pathlib.Path(__file__).resolve().parent
 # The rendition's time is ahead of any clock, so that what is published needs no time of its own.
@@ -468,16 +469,9 @@ def all_tests():
 
 
 def main(path, *names):
-    program = shutil.which(pathlib.Path(path).resolve())
-    tests = [each for each in all_tests() if not names or each[0].__name__ in names]
-    if program is None or not tests:
-        print('there is no such test' if program else f'{path} is no program', '0 passed, 1 failed', sep='\n')
-        return 1
-    failed = try_all(program, tests, LONGEST)
     if not shutil.which('ffmpeg'):
         print('no ffmpeg: what a real encoder writes is not tried')
-    print(f'{len(tests) - failed} passed, {failed} failed')
-    return failed > 0
+    return try_named(PushRoom, path, names, all_tests(), LONGEST)
 
 
 if __name__ == '__main__':
