@@ -3,7 +3,7 @@ use Rattle.std.specs.Prelude.{◌≡◌, ℕ, ◌+◌, suc, ⊤, List, [], ◌�
 use Rattle.ll_hub_channel.specs.declared.fault.HubFault.{HubFault}
 use Rattle.ll_hub_channel.specs.declared.fault.HubFault.TheVariants.{Room}
 
--- that so many replies became ready in the channel at `place`
+-- `more` replies became ready in the channel at `place`
 pub record Ring : Type 0 where
   pub place : ℕ
   pub more : ℕ
