@@ -116,6 +116,33 @@ fn publish_after<L: Ledgers, R: Wait + Abort>(
     pass
 }
 
+/// Serves a player on `wire` while another thread publishes a segment, if `publishes` says so. Returns how its connection ends, and the
+/// publisher's pass.
+fn serve_beside<'a, L: Ledgers + Send + Sync, R: Threads + Wait + time::Clock + Abort + Sync>(
+    rt: &'a R,
+    alloc: Global,
+    hub: &'a Hub<L>,
+    clock: &'a Waiting,
+    wire: &mut Wire<'_>,
+    pass: &mut Pass<L>,
+    publishes: bool,
+) -> (Result<u64, LinkFault>, Pass<L>) {
+    let service = Service {
+        rt,
+        alloc,
+        clock,
+        gate: &Open,
+        sink: &Dropped,
+        bell: &Silent,
+        hub,
+    };
+    thread::join(
+        rt,
+        || serve_link(&service, Role::Player, wire, pass),
+        || publish_after(rt, alloc, hub, &clock.readings, publishes),
+    )
+}
+
 /// Serves a player whose first request waits for what is published after it.
 fn serve_held<L: Ledgers + Send + Sync, R: Threads + Wait + time::Clock + Abort + Sync>(
     rt: &R,
@@ -131,19 +158,14 @@ fn serve_held<L: Ledgers + Send + Sync, R: Threads + Wait + time::Clock + Abort 
     let mut pass = seat(rt, &hub);
     let mut wire = Wire::new(alloc, bytes, case.plan);
     let clock = Waiting::new(1);
-    let service = Service {
+    let (result, publisher) = serve_beside(
         rt,
         alloc,
-        clock: &clock,
-        gate: &Open,
-        sink: &Dropped,
-        bell: &Silent,
-        hub: &hub,
-    };
-    let (result, publisher) = thread::join(
-        rt,
-        || serve_link(&service, Role::Player, &mut wire, &mut pass),
-        || publish_after(rt, alloc, &hub, &clock.readings, case.published),
+        &hub,
+        &clock,
+        &mut wire,
+        &mut pass,
+        case.published,
     );
     let passes = vec![in alloc; pass, publisher].expect(rt, "passes");
     Served {

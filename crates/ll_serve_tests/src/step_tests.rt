@@ -84,6 +84,31 @@ fn publish_next<L: Ledgers, R: Wait + Abort>(
     pass
 }
 
+/// Serves a player on `wire` while another thread publishes the next part. Returns how its connection ends, and the publisher's pass.
+fn serve_beside<'a, L: Ledgers + Send + Sync, R: Threads + Wait + time::Clock + Abort + Sync>(
+    rt: &'a R,
+    alloc: Global,
+    hub: &'a Hub<L>,
+    clock: &'a Waiting,
+    wire: &mut Wire<'_>,
+    pass: &mut Pass<L>,
+) -> (Result<u64, LinkFault>, Pass<L>) {
+    let service = Service {
+        rt,
+        alloc,
+        clock,
+        gate: &Open,
+        sink: &Dropped,
+        bell: &Silent,
+        hub,
+    };
+    thread::join(
+        rt,
+        || serve_link(&service, Role::Player, wire, pass),
+        || publish_next(rt, alloc, hub, &clock.readings),
+    )
+}
+
 /// Serves a player by a thread of its own.
 fn serve_whole<L: Ledgers + Send + Sync, R: Threads + Wait + time::Clock + Abort + Sync>(
     rt: &R,
@@ -99,20 +124,7 @@ fn serve_whole<L: Ledgers + Send + Sync, R: Threads + Wait + time::Clock + Abort
     publish_media(rt, alloc, &hub, &mut pass);
     let mut wire = Wire::new(alloc, bytes, SOUND);
     let clock = Waiting::new(1);
-    let service = Service {
-        rt,
-        alloc,
-        clock: &clock,
-        gate: &Open,
-        sink: &Dropped,
-        bell: &Silent,
-        hub: &hub,
-    };
-    let (result, publisher) = thread::join(
-        rt,
-        || serve_link(&service, Role::Player, &mut wire, &mut pass),
-        || publish_next(rt, alloc, &hub, &clock.readings),
-    );
+    let (result, publisher) = serve_beside(rt, alloc, &hub, &clock, &mut wire, &mut pass);
     let passes = vec![in alloc; pass, publisher].expect(rt, "passes");
     Served {
         result,
@@ -177,13 +189,13 @@ fn drive<'a, L: Ledgers, R: Wait + Abort>(
 }
 
 /// Serves a player in steps. Returns its end, what it was sent, and the totals. No request is held once its connection is dropped.
-fn serve_in_steps<L: Ledgers, R: Wait + time::Clock + Abort>(
-    rt: &R,
+fn serve_in_steps<'a, L: Ledgers, R: Wait + time::Clock + Abort>(
+    rt: &'a R,
     alloc: Global,
     blanks: Blanks,
-    bytes: &[u8],
+    bytes: &'a [u8],
     steps: Steps,
-    tape: &Tape<'_, R>,
+    tape: &'a Tape<'a, R>,
 ) -> Served
     requires names { blanks ≡ L.names }
     requires channels { L.channels ≡ 1 }
