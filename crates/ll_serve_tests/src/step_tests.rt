@@ -26,7 +26,7 @@ use std::{mem, thread, time};
 type Room<'a, L, R> = Service<'a, L, Stopped, Counting, Dropped, Silent, R>;
 
 /// A connection that is served in steps.
-type Player<'a, L, R> = Connection<'a, L, Halting<'a, R>, Counting, R>;
+type Player<'a, 'b, L, R> = Connection<'a, L, Halting<'b, R>, Counting, R>;
 
 /// A request that awaits the part after those of the publisher's lines.
 const GET_NEXT: &[u8] = b"GET /cam/hi/live.m3u8?_HLS_msn=2&_HLS_part=1 HTTP/1.1\r\nHost: h\r\n\r\n";
@@ -153,9 +153,9 @@ const AT_ONCE: Steps = Steps {
 const MOST: u64 = 100_000;
 
 /// Takes a step of a connection whose request is held, which only its reply ends: publishes what it awaits, and collects that.
-fn release<'a, L: Ledgers, R: Wait + Abort>(
+fn release<'a, 'b, L: Ledgers, R: Wait + Abort>(
     room: &Room<'a, L, R>,
-    player: &mut Player<'a, L, R>,
+    player: &mut Player<'a, 'b, L, R>,
     pass: &mut Pass<L>,
     sends: bool,
 ) -> Result<Step, LinkFault> {
@@ -170,9 +170,9 @@ fn release<'a, L: Ledgers, R: Wait + Abort>(
 }
 
 /// Serves a connection in steps, up to its end.
-fn drive<'a, L: Ledgers, R: Wait + Abort>(
+fn drive<'a, 'b, L: Ledgers, R: Wait + Abort>(
     room: &Room<'a, L, R>,
-    player: &mut Player<'a, L, R>,
+    player: &mut Player<'a, 'b, L, R>,
     pass: &mut Pass<L>,
     sends: bool,
 ) -> Result<u64, LinkFault> {
