@@ -20,7 +20,7 @@ use crate::places::{FIRST, covers, start, time_of, want_of};
 use crate::ready::Ready;
 use crate::release::Release;
 use crate::slots::Slots;
-use ll_page_cache::Pages;
+use ll_page_cache::{Pages, Rendered};
 use ll_verdict::{Entry, Settled, Slot};
 use std::alloc::{AllocError, Global};
 use std::collections::BTreeMap;
@@ -249,13 +249,14 @@ impl Book {
         Some(place)
     }
 
-    /// Makes the reply for each request that the release `which` will take, in order of their tickets: from `pages`, those of its rendition, and from
-    /// `part`, the part that comes, if one does.
+    /// Makes the reply for each request that the release `which` will take, in order of their tickets: from `pages`, those of its rendition, which
+    /// share what was rendered `before`, and from `part`, the part that comes, if one does.
     pub fn holders(
         &self,
         alloc: Global,
         which: Release,
         pages: &mut Pages,
+        before: Rendered<'_>,
         part: &Option<NextPart>,
     ) -> Result<Holders, AllocError>
         ensures holders { IfOk result (λ h. h.holders ≡ holders_of (record { pages = pages.old; part = part.now }) which self.now) }
@@ -268,7 +269,7 @@ impl Book {
         // Serves the proof alone.
         self.slots.len();
         while let Some(place) = self.next_taken(which, after, &mut looked) {
-            self.add_holder(alloc, place.number, pages, part, &mut holders)?;
+            self.add_holder(alloc, place.number, pages, before, part, &mut holders)?;
             after = place;
         }
         // Serves the proof alone.
@@ -285,6 +286,7 @@ impl Book {
         alloc: Global,
         ticket: u64,
         pages: &mut Pages,
+        before: Rendered<'_>,
         part: &Option<NextPart>,
         holders: &mut BTreeMap<u64, Settled>,
     ) -> Result<(), AllocError>
@@ -296,7 +298,7 @@ impl Book {
         let Some(entry) = self.find(ticket) else {
             unreachable!();
         };
-        let settled = given(alloc, pages, part, &entry.wanted)?;
+        let settled = given(alloc, pages, before, part, &entry.wanted)?;
         holders.insert(ticket, settled)?;
         Ok(())
     }

@@ -7,7 +7,7 @@ use crate::holders::Holders;
 use crate::next_part::NextPart;
 use crate::release::Release;
 use ll_item::Item;
-use ll_page_cache::Pages;
+use ll_page_cache::{Pages, Rendered};
 use ll_window::Window;
 use std::alloc::{AllocError, Global};
 
@@ -56,19 +56,20 @@ pub fn part_of(window: &Window, item: &Item) -> Result<Option<NextPart>, AllocEr
     }
 }
 
-/// Makes the replies of the release `which`, if there is one.
+/// Makes the replies of the release `which`, if there is one, as [`Book::holders`] does.
 pub fn holders_for(
     book: &Book,
     alloc: Global,
     which: Option<Release>,
     pages: &mut Pages,
+    before: Rendered<'_>,
     part: &Option<NextPart>,
 ) -> Result<Option<Holders>, AllocError>
     ensures holders { IfOk result (λ found. spec.HasHolders (record { pages = pages.old; part = part.now }) which book.now found) }
     ensures pages { pages.new ≡ pages.old }
 {
     match which {
-        Some(which) => Ok(Some(book.holders(alloc, which, pages, part)?)),
+        Some(which) => Ok(Some(book.holders(alloc, which, pages, before, part)?)),
         None => Ok(None),
     }
 }

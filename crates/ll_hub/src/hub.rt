@@ -151,12 +151,21 @@ impl<L: Ledgers> Hub<L> {
         ensures unchanged { OnErr result ((pass.new ≡ pass.old) × (B.rung bell.new ≡ B.rung bell.old)) }
     {
         let (channel_lock, known) = self.locks.reach(channel, pass.seen(channel))?;
-        let mut state = channel_lock.lock(rt);
-        let ready = state.ready();
-        let count = state.publish(rt, known, item, &self.publishes, &mut pass.counts)?;
-        channel_lock.leave(state, ready, bell, channel);
-        pass.note(channel, *count.get());
-        Ok(count)
+        let mut section = channel_lock.enter(rt);
+        let told = section
+            .state
+            .publish(rt, known, item, &self.publishes, &mut pass.counts);
+        match told {
+            Ok(count) => {
+                section.leave(bell, channel);
+                pass.note(channel, *count.get());
+                Ok(count)
+            }
+            Err(fault) => {
+                section.leave_unchanged();
+                Err(fault)
+            }
+        }
     }
 
     /// Returns where the rendition at index `rendition` of the channel at place `channel` stands; `None` if the channel has no such
@@ -209,10 +218,11 @@ impl<L: Ledgers> Hub<L> {
         ensures unchanged { OnErr result (pass.new ≡ pass.old) }
     {
         let (channel_lock, known) = self.locks.reach(channel, pass.seen(channel))?;
-        let mut state = channel_lock.lock(rt);
-        let ready = state.ready();
-        let answer = state.ask(rt, known, clock, want, &self.asks, &mut pass.counts);
-        channel_lock.leave(state, ready, bell, channel);
+        let mut section = channel_lock.enter(rt);
+        let answer = section
+            .state
+            .ask(rt, known, clock, want, &self.asks, &mut pass.counts);
+        section.leave(bell, channel);
         match answer? {
             AtOnce::Now(reply) => {
                 pass.note_reply(channel, reply.get());

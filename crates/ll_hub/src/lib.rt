@@ -5,6 +5,7 @@ mod bell;
 mod claim;
 mod counted;
 mod hub;
+mod lock;
 mod locks;
 mod pass;
 mod totals;

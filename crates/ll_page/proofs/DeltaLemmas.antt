@@ -1,5 +1,5 @@
 -- The text of a playlist that skips a number of segments, in its order, by the pieces of its view.
-use Rattle.std.proofs.Common.{◌≡◌, ℕ, zero, suc, ◌==◌, List, [], ◌++◌, Bool, false, length, map, drop, refl, ap, sym, ◌∙◌, arith, append_assoc, append-nil}
+use Rattle.std.proofs.Common.{◌≡◌, ℕ, zero, suc, ◌==◌, List, [], ◌++◌, Bool, false, length, map, refl, ap, sym, ◌∙◌, arith, append_assoc, append-nil}
 use Rattle.std.proofs.lemmas.Bool.Decides.{nat_tests}
 use Rattle.std.specs.Prelude.{flat_map}
 use Rattle.ll_line.specs.Line.{DateRange, Skipped, RenditionReport}
@@ -7,7 +7,7 @@ use Rattle.ll_line.specs.Text.{line_text, text_of}
 use Rattle.ll_page.specs.Delta.{delta_by, ids_removed, ranges_left}
 use Rattle.ll_item.specs.declared.skip_kind.SkipKind.{SkipKind}
 use Rattle.ll_page.specs.Full.{full_playlist, printed, range_line, open_of, reports_of, hint_of}
-use Rattle.ll_page.specs.Pieces.{PiecesOf, pieces_of}
+use Rattle.ll_page.specs.Pieces.{PiecesOf, pieces_from}
 use Rattle.ll_line.specs.Spelling.{spelling, head_lines, segment_lines, open_lines, last_line}
 use Rattle.ll_page.specs.View.{Seen, asked}
 use Rattle.ll_line.proofs.Texts.{spelling_texts}
@@ -35,8 +35,8 @@ abbrev pub text_by : Bool → PiecesOf → SkipKind → Seen → ℕ → List �
 text_by leads pieces kind v n =
     text_of (head_lines (full_playlist v))
     ++ (skips_by kind v n
-    ++ (text_of (flat_map segment_lines (printed leads (drop n pieces.finished)))
-    ++ (text_of (open_lines (open_of (length pieces.finished == 0) pieces.unfinished))
+    ++ (text_of (flat_map segment_lines (printed leads pieces.finished))
+    ++ (text_of (open_lines (open_of (length (asked v).window.window == 0) pieces.unfinished))
     ++ (text_of (map RenditionReport (reports_of v))
     ++ line_text (last_line (hint_of (asked v).window))))))
 
@@ -44,11 +44,11 @@ text_by leads pieces kind v n =
 together : (ranges line more : List ℕ) → (ranges ++ line) ++ more ≡ ranges ++ ((line ++ []) ++ more)
 together ranges line more = append_assoc ranges line more ∙ ap (λ t. ranges ++ (t ++ more)) (sym (append-nil line))
 
-pub spelled : (kind : SkipKind) (v : Seen) (n : ℕ) → text_by (n == 0) (pieces_of v) kind v n ≡ spelling (delta_by kind n v)
+pub spelled : (kind : SkipKind) (v : Seen) (n : ℕ) → text_by (n == 0) (pieces_from n v) kind v n ≡ spelling (delta_by kind n v)
 spelled kind v zero = sym (spelling_texts (full_playlist v))
 spelled kind v (suc n) =
     let head = text_of (head_lines (full_playlist v)) in
     let ranges = text_of (map DateRange (map range_line (ranges_left kind (asked v)))) in
     let line = line_text (Skipped (record { count = suc n; removed = ids_removed kind (asked v) })) in
-    ap (λ leads. text_by leads (pieces_of v) kind v (suc n)) (after n)
+    ap (λ leads. text_by leads (pieces_from (suc n) v) kind v (suc n)) (after n)
     ∙ ap (λ t. head ++ t) (together ranges line _) ∙ sym (spelling_texts (delta_by kind (suc n) v))

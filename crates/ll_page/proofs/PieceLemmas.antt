@@ -1,7 +1,6 @@
 -- Rows as pieces, and the lines of pieces, one after another.
-use Rattle.std.proofs.Common.{◌≡◌, ℕ, zero, suc, ◌+◌, ◌-◌, ◌<◌, ◌==◌, List, [], ◌∷◌, ◌++◌, Bool, false, length, get_or, take, drop, map, Option, None, Some, refl, ap, ap₂, sym, ◌∙◌, arith, append_assoc}
-use Rattle.std.proofs.lemmas.Bool.Decides.{nat_tests}
-use Rattle.std.proofs.lemmas.List.{drop-map, drop_more, length-map, map-append}
+use Rattle.std.proofs.Common.{◌≡◌, ℕ, zero, suc, ◌+◌, ◌-◌, ◌<◌, List, [], ◌∷◌, ◌++◌, Bool, false, length, get_or, take, drop, map, Option, None, Some, refl, ap, ap₂, sym, ◌∙◌, arith, append_assoc, slice_get}
+use Rattle.std.proofs.lemmas.List.{drop-map, drop_more, length-map, map-append, take-map}
 use Rattle.std.proofs.lemmas.Option.{same_Some}
 use Rattle.std.specs.Option.{option_map}
 use Rattle.std.specs.Prelude.{flat_map}
@@ -10,7 +9,7 @@ use Rattle.ll_item.specs.declared.part.Part as item
 use Rattle.ll_window.specs.declared.segment.Segment.{Segment}
 use Rattle.ll_window.specs.Compact.{Compact, unfinished}
 use Rattle.ll_window.specs.Rows.{Row}
-use Rattle.ll_window.specs.Window.{segment_at, parts_at}
+use Rattle.ll_window.specs.Window.{segment_at, parts_at, parts_of}
 use Rattle.ll_page.specs.Full.{finished_of, printed}
 use Rattle.ll_page.specs.Piece.{PieceOf, AreFinished, IsOpen, finished_piece, open_piece, row_in, rows_in, piece_lines, joined_lines}
 use Rattle.ll_page.specs.Pieces.{PiecesOf}
@@ -38,11 +37,11 @@ all-finished pieces rows e = let back : rows_in pieces ≡ rows = ap rows_in e �
 pub one-open : (piece : Option PieceOf) (row : Option Row) → piece ≡ option_map open_piece row → (row_in piece ≡ row) × IsOpen piece
 one-open piece row e = let back : row_in piece ≡ row = ap row_in e ∙ row_again row in (back, e ∙ ap (option_map open_piece) (sym back))
 
--- together they are those of a window
-pub all-pieces : (pieces : List PieceOf) (piece : Option PieceOf) (w k : Compact) → pieces ≡ map finished_piece w.window → piece ≡ option_map open_piece (unfinished w)
-    → w ≡ k → rendered (rows_in pieces) (row_in piece) ≡ rendered k.window (unfinished k)
-all-pieces pieces piece w k e f same =
-    ap₂ rendered (all-finished pieces w.window e).0 (one-open piece (unfinished w) f).0 ∙ ap (λ (x : Compact). rendered x.window (unfinished x)) same
+-- together they are those of a window without its first segments
+pub all-pieces : (pieces : List PieceOf) (piece : Option PieceOf) (n : ℕ) (w k : Compact) → pieces ≡ map finished_piece (drop n w.window)
+    → piece ≡ option_map open_piece (unfinished w) → w ≡ k → rendered (rows_in pieces) (row_in piece) ≡ rendered (drop n k.window) (unfinished k)
+all-pieces pieces piece n w k e f same =
+    ap₂ rendered (all-finished pieces (drop n w.window) e).0 (one-open piece (unfinished w) f).0 ∙ ap (λ (x : Compact). rendered (drop n x.window) (unfinished x)) same
 
 -- all but the first ones
 dropped : {A : Type 0} (of : A → PieceOf) (n : ℕ) (xs : List A) → AreFinished (map of xs) → map of (drop n xs) ≡ map finished_piece (drop n (rows_in (map of xs)))
@@ -50,6 +49,17 @@ dropped of n xs e = sym (drop-map of n xs) ∙ ap (drop n) e ∙ drop-map finish
 
 length_rows : {A : Type 0} (of : A → PieceOf) (xs : List A) → length (rows_in (map of xs)) ≡ length xs
 length_rows of xs = length-map (map of xs) (λ p. p.row) ∙ length-map xs of
+
+-- the first ones, and those of two lists
+pub first-finished : {A : Type 0} (of : A → PieceOf) (n : ℕ) (xs ys : List A) → ys ≡ take n xs → AreFinished (map of xs) → AreFinished (map of ys)
+first-finished of n xs ys e f =
+    (all-finished (map of ys) (take n (rows_in (map of xs))) (ap (map of) e ∙ sym (take-map of n xs) ∙ ap (take n) f ∙ take-map finished_piece n (rows_in (map of xs)))).1
+
+pub both-finished : {A : Type 0} (of : A → PieceOf) (xs ys zs : List A) → zs ≡ xs ++ ys → AreFinished (map of xs) → AreFinished (map of ys) → AreFinished (map of zs)
+both-finished of xs ys zs e f g =
+    let one = rows_in (map of xs) in
+    let two = rows_in (map of ys) in
+    (all-finished (map of zs) (one ++ two) (ap (map of) e ∙ map-append of xs ys ∙ ap₂ (λ a b. a ++ b) f g ∙ sym (map-append finished_piece one two))).1
 
 pub still-finished : {A : Type 0} (of : A → PieceOf) (n : ℕ) (xs ys : List A) → ys ≡ drop n xs → AreFinished (map of xs)
     → (rows_in (map of ys) ≡ drop n (rows_in (map of xs))) × AreFinished (map of ys)
@@ -85,6 +95,18 @@ next-row of xs ys x rows i s ps e f is h pushed =
     ∙ ap (map finished_piece) (sym (row_at rows i s ps e f))
     ∙ ap (λ n. map finished_piece (take n rows)) next
 
+-- the row at a place after the first ones
+row_after : (rows : List Row) (n i : ℕ) → slice_get (drop n rows) i ≡ slice_get rows (n + i)
+row_after rows zero i = let same : i ≡ 0 + i = omega arith in ap (slice_get rows) same
+row_after [] (suc n) i = refl
+row_after (row ∷ rows) (suc n) i = let next : suc (n + i) ≡ suc n + i = omega arith in row_after rows n i ∙ ap (slice_get (row ∷ rows)) next
+
+pub segment_after : (rows : List Row) (n i place : ℕ) (s : Option Segment) → n + i ≡ place → s ≡ segment_at rows place → s ≡ segment_at (drop n rows) i
+segment_after rows n i place s at e = e ∙ ap (segment_at rows) (sym at) ∙ ap (option_map (λ (r : Row). r.segment)) (sym (row_after rows n i))
+
+pub parts_after : (rows : List Row) (n i place : ℕ) (ps : List item.Part) → n + i ≡ place → ps ≡ parts_at rows place → ps ≡ parts_at (drop n rows) i
+parts_after rows n i place ps at e = e ∙ ap (parts_at rows) (sym at) ∙ ap parts_of (sym (row_after rows n i))
+
 -- there is a segment at each place below their number
 pub some-place : (rows : List Row) (i : ℕ) → i < length rows → None ≡ segment_at rows i → ⊥
 some-place [] i h e = absurd (omega arith)
@@ -97,25 +119,21 @@ joined_rows : (leads : Bool) (rows : List Row) → joined_lines leads (map finis
 joined_rows leads [] = refl
 joined_rows leads (row ∷ rows) = ap (λ more. segment_lines (finished_of leads row) ++ more) (joined_rows false rows)
 
--- the lines of all finished pieces but the skipped ones
-pub joined-finished : {A : Type 0} (of : A → PieceOf) (leads : Bool) (n : ℕ) (xs : List A) → AreFinished (map of xs)
-    → joined_lines leads (map of (drop n xs)) ≡ flat_map segment_lines (printed leads (drop n (rows_in (map of xs))))
-joined-finished of leads n xs e = ap (joined_lines leads) (dropped of n xs e) ∙ joined_rows leads (drop n (rows_in (map of xs)))
-
-after_first : (i : ℕ) → (i + 1 == 0) ≡ false
-after_first i = grind (arith, nat_tests)
+-- the lines of all finished pieces
+pub joined-finished : {A : Type 0} (of : A → PieceOf) (leads : Bool) (xs : List A) → AreFinished (map of xs)
+    → joined_lines leads (map of xs) ≡ flat_map segment_lines (printed leads (rows_in (map of xs)))
+joined-finished of leads xs e = ap (joined_lines leads) e ∙ joined_rows leads (rows_in (map of xs))
 
 -- the text so far and the lines from this place on stay the whole text when this piece's are added
-pub next-piece : {A : Type 0} (of : A → PieceOf) (old new whole : List ℕ) (xs : List A) (i : ℕ) (x : A) → i < length xs → x ≡ get_or xs i x
-    → new ≡ old ++ text_of (piece_lines (i == 0) (of x))
-    → old ++ text_of (joined_lines (i == 0) (map of (drop i xs))) ≡ whole → new ++ text_of (joined_lines (i + 1 == 0) (map of (drop (i + 1) xs))) ≡ whole
-next-piece of old new whole xs i x within read added h =
+pub next-piece : {A : Type 0} (of : A → PieceOf) (leads : Bool) (old new whole : List ℕ) (xs : List A) (i : ℕ) (x : A) → i < length xs → x ≡ get_or xs i x
+    → new ≡ old ++ text_of (piece_lines leads (of x))
+    → old ++ text_of (joined_lines leads (map of (drop i xs))) ≡ whole → new ++ text_of (joined_lines false (map of (drop (i + 1) xs))) ≡ whole
+next-piece of leads old new whole xs i x within read added h =
     let here : drop i xs ≡ x ∷ drop (i + 1) xs = drop_more xs i x within ∙ ap (λ y. y ∷ drop (i + 1) xs) (sym read) in
-    let own = piece_lines (i == 0) (of x) in
+    let own = piece_lines leads (of x) in
     let rest = joined_lines false (map of (drop (i + 1) xs)) in
-    ap (λ b. new ++ text_of (joined_lines b (map of (drop (i + 1) xs)))) (after_first i)
-    ∙ ap (λ t. t ++ text_of rest) added
+    ap (λ t. t ++ text_of rest) added
     ∙ append_assoc old (text_of own) (text_of rest)
     ∙ ap (λ t. old ++ t) (sym (texts own rest))
-    ∙ ap (λ ys. old ++ text_of (joined_lines (i == 0) (map of ys))) (sym here)
+    ∙ ap (λ ys. old ++ text_of (joined_lines leads (map of ys))) (sym here)
     ∙ h

@@ -1,5 +1,5 @@
 -- What the pieces of a page are written of.
-use Rattle.std.specs.Prelude.{List, Option}
+use Rattle.std.specs.Prelude.{ℕ, List, Option, drop}
 use Rattle.ll_window.specs.Compact.{unfinished}
 use Rattle.ll_window.specs.Rows.{Row}
 use Rattle.ll_page.specs.View.{Seen, asked}
@@ -10,6 +10,6 @@ pub record PiecesOf : Type 0 where
   -- the open segment, if there is one
   pub unfinished : Option Row
 
--- the segments of the rendition that is asked for
-abbrev pub pieces_of : Seen → PiecesOf
-pieces_of v = record { finished = (asked v).window.window; unfinished = unfinished (asked v).window }
+-- the segments of the rendition that is asked for, without the first `skipped` finished ones
+abbrev pub pieces_from : ℕ → Seen → PiecesOf
+pieces_from skipped v = record { finished = drop skipped (asked v).window.window; unfinished = unfinished (asked v).window }

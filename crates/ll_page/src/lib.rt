@@ -14,7 +14,7 @@ pub use ll_item::SkipKind;
 pub use ll_line::{Control, DateRange, DateTime, Line, PartLine, Report, Skip, Uri, push_line};
 pub use ll_rendition::Rendition;
 pub use page::Page;
-pub use pieces::Pieces;
+pub use pieces::{Pieces, Rendered};
 pub use playlist::{delta, full};
 pub use shown::Shown;
 pub use view::View;

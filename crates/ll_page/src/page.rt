@@ -2,9 +2,8 @@
 ghost use Rattle.std.specs.Prelude.{◌≡◌, ◌<◌, ◌≤◌, IfOk, MatchOption, length};
 ghost use Rattle.std.specs.Arc.{arc_str_bytes};
 ghost use Rattle.ll_page.specs.Page.{page_text, seen_of, update_in};
-ghost use Rattle.ll_page.specs.Pieces.{pieces_of};
 
-use crate::pieces::Pieces;
+use crate::pieces::{Pieces, Rendered};
 use crate::playlist::written;
 use crate::shown::Shown;
 use crate::view::View;
@@ -47,35 +46,35 @@ impl Page {
         ensures { IfOk result (λ found. MatchOption found (length shown.now.renditions ≤ rendition)
             (λ p. (rendition < length shown.now.renditions) × (p ≡ record { seen = seen_of shown.now rendition; form = form }))) }
     {
-        let Some(view) = shown.view(rendition) else {
-            return Ok(None);
-        };
-        let pieces = Pieces::new(alloc).after(alloc, &view)?;
-        Page::make_from(alloc, shown, rendition, &pieces, form)
+        match Page::make_from(alloc, shown, rendition, form, Rendered::none())? {
+            Some((page, _)) => Ok(Some(page)),
+            None => Ok(None),
+        }
     }
 
-    /// Returns the same page as `make`. It is joined from the pieces of its view, so that no line of a segment is written again.
+    /// Returns the same page as `make`, and the pieces that it is joined from, which share those of `rendered`: no line of a segment that they
+    /// have is written again.
     pub fn make_from(
         alloc: Global,
         shown: &Shown,
         rendition: usize,
-        pieces: &Pieces,
         form: Option<SkipKind>,
-    ) -> Result<Option<Page>, AllocError>
-        requires { rendition < length shown.now.renditions → pieces.now ≡ pieces_of (seen_of shown.now rendition) }
+        rendered: Rendered<'_>,
+    ) -> Result<Option<(Page, Pieces)>, AllocError>
         ensures { IfOk result (λ found. MatchOption found (length shown.now.renditions ≤ rendition)
-            (λ p. (rendition < length shown.now.renditions) × (p ≡ record { seen = seen_of shown.now rendition; form = form }))) }
+            (λ made. (rendition < length shown.now.renditions) × (made.0 ≡ record { seen = seen_of shown.now rendition; form = form }))) }
     {
         let Some(view) = shown.view(rendition) else {
             return Ok(None);
         };
-        let text = ArcStr::from_string(written(alloc, &view, pieces, form)?)?;
-        Ok(Some(Page {
-            text,
+        let (text, pieces) = written(alloc, &view, form, rendered)?;
+        let page = Page {
+            text: ArcStr::from_string(text)?,
             shown: shown.again()?,
             rendition,
             form,
-        }))
+        };
+        Ok(Some((page, pieces)))
     }
 
     /// Returns the text, as `full` or `delta` writes it of the view.

@@ -4,12 +4,12 @@ ghost use Rattle.ll_page.specs.Full.{full_text, full_playlist, header_of, report
 ghost use Rattle.ll_page.specs.Delta.{delta_text, delta_by, ranges_left, ids_removed};
 ghost use Rattle.ll_page.specs.View.{asked};
 ghost use Rattle.ll_page.specs.Page.{text_in};
-ghost use Rattle.ll_page.specs.Pieces.{pieces_of};
+ghost use Rattle.ll_page.specs.Pieces.{pieces_from};
 ghost use Rattle.ll_line.specs.Line as says;
 ghost use Rattle.ll_line.specs.Text.{line_text, text_of};
 ghost use Rattle.ll_line.specs.Spelling.{spelling, head_lines, header_lines, last_line};
 
-use crate::pieces::Pieces;
+use crate::pieces::{Pieces, Rendered};
 use crate::view::View;
 use ll_attr::{Micros, Text};
 use ll_item::{Settings, SkipKind};
@@ -24,8 +24,8 @@ use std::alloc::{AllocError, Global};
 pub fn full(alloc: Global, view: &View<'_>) -> Result<Text, AllocError>
     ensures { IfOk result (λ text. text ≡ full_text view.now) }
 {
-    let pieces = Pieces::new(alloc).after(alloc, view)?;
-    Ok(Text::from_string(written(alloc, view, &pieces, None)?))
+    let (text, _) = written(alloc, view, None, Rendered::none())?;
+    Ok(Text::from_string(text))
 }
 
 /// Returns the text of the delta update of `view` (section 6.2.5.1): the full playlist, with one EXT-X-SKIP line in place of the segments that are
@@ -34,24 +34,27 @@ pub fn full(alloc: Global, view: &View<'_>) -> Result<Text, AllocError>
 pub fn delta(alloc: Global, view: &View<'_>, kind: SkipKind) -> Result<Text, AllocError>
     ensures { IfOk result (λ text. text ≡ delta_text kind view.now) }
 {
-    let pieces = Pieces::new(alloc).after(alloc, view)?;
-    Ok(Text::from_string(written(alloc, view, &pieces, Some(kind))?))
+    let (text, _) = written(alloc, view, Some(kind), Rendered::none())?;
+    Ok(Text::from_string(text))
 }
 
-/// Returns the text of the delta update of kind `form`, or for `None` of the full playlist, joined from the pieces of `view`.
+/// Returns the text of the delta update of kind `form`, or for `None` of the full playlist, and the pieces that it is joined from, which share
+/// those of `rendered`.
 pub(crate) fn written(
     alloc: Global,
     view: &View<'_>,
-    pieces: &Pieces,
     form: Option<SkipKind>,
-) -> Result<String, AllocError>
-    requires { pieces.now ≡ pieces_of view.now }
-    ensures { IfOk result (λ text. string_bytes text ≡ text_in form view.now) }
+    rendered: Rendered<'_>,
+) -> Result<(String, Pieces), AllocError>
+    ensures { IfOk result (λ made. string_bytes made.0 ≡ text_in form view.now) }
 {
-    match form {
-        None => playlist(alloc, view, pieces, SkipKind::Yes, 0),
-        Some(kind) => playlist(alloc, view, pieces, kind, view.window().skip_count()),
-    }
+    let (kind, skipped) = match form {
+        None => (SkipKind::Yes, 0),
+        Some(kind) => (kind, view.window().skip_count()),
+    };
+    let pieces = Pieces::of(alloc, view, skipped, rendered)?;
+    let text = playlist(alloc, view, &pieces, kind, skipped)?;
+    Ok((text, pieces))
 }
 
 /// Returns the text of the playlist that skips `skipped` segments and, if that isn't 0, the date ranges that an update of this kind skips, joined
@@ -63,7 +66,7 @@ fn playlist(
     kind: SkipKind,
     skipped: usize,
 ) -> Result<String, AllocError>
-    requires { pieces.now ≡ pieces_of view.now }
+    requires { pieces.now ≡ pieces_from skipped view.now }
     ensures { IfOk result (λ text. string_bytes text ≡ spelling (delta_by kind skipped view.now)) }
 {
     let mut text = String::new(alloc);
@@ -73,8 +76,8 @@ fn playlist(
     } else {
         push_skipped(&mut text, alloc, view, kind, skipped)?;
     }
-    pieces.push_finished(&mut text, skipped)?;
-    pieces.push_unfinished(&mut text)?;
+    pieces.push_finished(&mut text, skipped == 0)?;
+    pieces.push_unfinished(&mut text, view.window().segment_count() == 0)?;
     push_reports(&mut text, view)?;
     push_last_line(&mut text, view.window())?;
     Ok(text)

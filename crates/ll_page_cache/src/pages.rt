@@ -1,11 +1,9 @@
 //! The playlists of one rendition at one moment.
 ghost use Rattle.std.specs.Prelude.{◌≡◌, ◌<◌, ◌≤◌, IfOk, MatchOption, length};
 ghost use Rattle.ll_page_cache.specs.Pages.{Is, page_in};
-ghost use Rattle.ll_page.specs.Page.{seen_of};
-ghost use Rattle.ll_page.specs.Pieces.{pieces_of};
 
 use ll_item::SkipKind;
-use ll_page::{Page, Pieces, Shown};
+use ll_page::{Page, Pieces, Rendered, Shown};
 use std::alloc::{AllocError, Global};
 use std::marker::Model;
 
@@ -14,6 +12,7 @@ use std::marker::Model;
 pub struct Pages {
     shown: Shown,
     rendition: usize,
+    /// What was rendered for these pages.
     pieces: Pieces,
     full: Option<Page>,
     delta: Option<Page>,
@@ -24,58 +23,43 @@ impl Model for Pages {
     ghost use Rattle.std.specs.Prelude.{◌≡◌, ◌<◌, None, Some, length};
     ghost use Rattle.ll_item.specs.declared.skip_kind.SkipKind.TheVariants.{Yes, V2};
     ghost use Rattle.ll_page_cache.specs.Pages.{PagesOf, Is};
-    ghost use Rattle.ll_page.specs.Page.{seen_of};
-    ghost use Rattle.ll_page.specs.Pieces.{pieces_of};
 
     ghost Value = { PagesOf };
 
     ghost view = { λ p. record { moment = p.shown; rendition = p.rendition } };
 
     ghost invariant = { λ p. (p.rendition < length p.shown.renditions)
-        × (p.pieces ≡ pieces_of (seen_of p.shown p.rendition))
         × Is (record { moment = p.shown; rendition = p.rendition }) None p.full
         × Is (record { moment = p.shown; rendition = p.rendition }) (Some Yes) p.delta
         × Is (record { moment = p.shown; rendition = p.rendition }) (Some V2) p.delta_v2 };
 }
 
 impl Pages {
-    /// Returns the pages of `rendition` of the channel `shown`, none of them written yet, or `None` if there is no such rendition. What was rendered
-    /// of its segments `before`, if anything, is shared.
-    pub fn new(
-        alloc: Global,
-        shown: Shown,
-        rendition: usize,
-        before: Option<&Pieces>,
-    ) -> Result<Option<Pages>, AllocError>
-        ensures { IfOk result (λ found. MatchOption found (length shown.renditions ≤ rendition)
-            (λ p. (rendition < length shown.renditions) × (p ≡ record { moment = shown; rendition = rendition }))) }
+    /// Returns the pages of `rendition` of the channel `shown`, none of them written yet, or `None` if there is no such rendition.
+    pub fn new(alloc: Global, shown: Shown, rendition: usize) -> Option<Pages>
+        ensures { MatchOption result (length shown.renditions ≤ rendition)
+            (λ p. (rendition < length shown.renditions) × (p ≡ record { moment = shown; rendition = rendition })) }
     {
-        let Some(view) = shown.view(rendition) else {
-            return Ok(None);
-        };
-        let none = Pieces::new(alloc);
-        let pieces = before.unwrap_or(&none).after(alloc, &view)?;
-        Ok(Some(Pages {
+        if shown.renditions().len() <= rendition {
+            return None;
+        }
+        Some(Pages {
             shown,
             rendition,
-            pieces,
+            pieces: Pieces::new(alloc),
             full: None,
             delta: None,
             delta_v2: None,
-        }))
+        })
     }
 
-    /// Returns what is rendered of the rendition's segments.
-    pub fn pieces(&self) -> &Pieces
-        ensures { result.now ≡ pieces_of (seen_of self.now.moment self.now.rendition) }
-    {
+    /// Returns what was rendered for these pages.
+    pub fn pieces(&self) -> &Pieces {
         &self.pieces
     }
 
-    /// Returns what is rendered of the rendition's segments, for the pages of a later moment.
-    pub fn into_pieces(self) -> Pieces
-        ensures { result ≡ pieces_of (seen_of self.moment self.rendition) }
-    {
+    /// Returns what was rendered for these pages, for those of a later moment.
+    pub fn into_pieces(self) -> Pieces {
         self.pieces
     }
 
@@ -93,8 +77,13 @@ impl Pages {
         self.shown.count()
     }
 
-    /// Returns the page in this form.
-    pub fn page(&mut self, alloc: Global, form: Option<SkipKind>) -> Result<Page, AllocError>
+    /// Returns the page in this form. It shares the lines of segments that were rendered for these pages, or else `before`.
+    pub fn page(
+        &mut self,
+        alloc: Global,
+        form: Option<SkipKind>,
+        before: Rendered<'_>,
+    ) -> Result<Page, AllocError>
         ensures page { IfOk result (λ p. p ≡ page_in self.old form) }
         ensures unchanged { self.new ≡ self.old }
     {
@@ -107,9 +96,9 @@ impl Pages {
             delta_v2,
         } = self;
         match form {
-            None => shared(alloc, shown, *rendition, pieces, form, full),
-            Some(SkipKind::Yes) => shared(alloc, shown, *rendition, pieces, form, delta),
-            Some(SkipKind::V2) => shared(alloc, shown, *rendition, pieces, form, delta_v2),
+            None => shared(alloc, shown, *rendition, pieces, before, form, full),
+            Some(SkipKind::Yes) => shared(alloc, shown, *rendition, pieces, before, form, delta),
+            Some(SkipKind::V2) => shared(alloc, shown, *rendition, pieces, before, form, delta_v2),
         }
     }
 }
@@ -119,12 +108,12 @@ fn shared(
     alloc: Global,
     shown: &Shown,
     rendition: usize,
-    pieces: &Pieces,
+    pieces: &mut Pieces,
+    before: Rendered<'_>,
     form: Option<SkipKind>,
     place: &mut Option<Page>,
 ) -> Result<Page, AllocError>
     requires there { rendition < length shown.now.renditions }
-    requires pieces { pieces.now ≡ pieces_of (seen_of shown.now rendition) }
     requires made { Is (record { moment = shown.now; rendition = rendition }) form place.old }
     ensures page { IfOk result (λ p. p ≡ page_in (record { moment = shown.now; rendition = rendition }) form) }
     ensures kept { Is (record { moment = shown.now; rendition = rendition }) form place.new }
@@ -132,7 +121,12 @@ fn shared(
     if let Some(page) = place {
         return page.again();
     }
-    let page = Page::make_from(alloc, shown, rendition, pieces, form)?.unwrap();
+    let rendered = Rendered {
+        own: Some(&*pieces),
+        ..before
+    };
+    let (page, written) = Page::make_from(alloc, shown, rendition, form, rendered)?.unwrap();
+    pieces.renew(written);
     *place = Some(page.again()?);
     Ok(page)
 }

@@ -6,7 +6,7 @@ ghost use Rattle.ll_page_cache.specs.Written.{AreWritten, is_of};
 
 use crate::pages::Pages;
 use ll_item::SkipKind;
-use ll_page::{Page, Pieces, Rendition, Shown};
+use ll_page::{Page, Pieces, Rendered, Rendition, Shown};
 use std::alloc::{AllocError, Global};
 use std::marker::Model;
 
@@ -54,20 +54,29 @@ impl Written {
         ensures current { AreWritten shown.now self.new.pages }
         ensures pieces { self.new.pieces ≡ self.old.pieces }
     {
-        if let Some(place) = place_of(&self.pages, rendition) {
-            return self.pages[place].page(alloc, form);
+        let found = place_of(&self.pages, rendition);
+        let before = Rendered {
+            earlier: self.pieces.get(rendition),
+            ..Rendered::none()
+        };
+        if let Some(place) = found {
+            return self.pages[place].page(alloc, form, before);
         }
-        let before = self.pieces.get(rendition);
         let (pages, page) = first_page(alloc, shown, rendition, form, before)?;
         self.pages.push(pages)?;
         Ok(page)
     }
 
-    /// Returns what is rendered of the segments of `rendition`, if anything is.
-    pub fn rendered(&self, rendition: usize) -> Option<&Pieces> {
-        match place_of(&self.pages, rendition) {
+    /// Returns what was rendered of the segments of `rendition`, for its pages of the next moment.
+    pub fn rendered(&self, rendition: usize) -> Rendered<'_> {
+        let last = match place_of(&self.pages, rendition) {
             Some(place) => Some(self.pages[place].pieces()),
-            None => self.pieces.get(rendition),
+            None => None,
+        };
+        Rendered {
+            own: None,
+            last,
+            earlier: self.pieces.get(rendition),
         }
     }
 
@@ -98,14 +107,14 @@ fn first_page(
     shown: &Shown,
     rendition: usize,
     form: Option<SkipKind>,
-    before: Option<&Pieces>,
+    before: Rendered<'_>,
 ) -> Result<(Pages, Page), AllocError>
     requires { rendition < length shown.now.renditions }
     ensures pages { IfOk result (λ made. made.0 ≡ record { moment = shown.now; rendition = rendition }) }
     ensures page { IfOk result (λ made. made.1 ≡ record { seen = seen_of shown.now rendition; form = form }) }
 {
-    let mut pages = Pages::new(alloc, shown.again()?, rendition, before)?.unwrap();
-    let page = pages.page(alloc, form)?;
+    let mut pages = Pages::new(alloc, shown.again()?, rendition).unwrap();
+    let page = pages.page(alloc, form, before)?;
     Ok((pages, page))
 }
 
@@ -116,7 +125,7 @@ fn leave(pages: &mut Vec<Pages>, pieces: &mut Vec<Pieces>)
 {
     while let Some(last) = pages.pop() {
         if let Some(place) = pieces.get_mut(last.rendition()) {
-            *place = last.into_pieces();
+            place.renew(last.into_pieces());
         }
     }
 }

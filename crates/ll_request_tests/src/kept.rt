@@ -128,7 +128,7 @@ fn pages_of(
         renditions.push(rendition_of(alloc, settings, text)?)?;
     }
     let shown = Shown::of(alloc, settings, &renditions, 2)?;
-    Pages::new(alloc, shown, rendition, None)
+    Ok(Pages::new(alloc, shown, rendition))
 }
 
 /// Returns a rendition in which the part of `text` was published. A refused item is an `AllocError` too.

@@ -201,7 +201,7 @@ impl Room {
         ensures first { IfOk result (λ x. HasHolders (supply_in x) first self.now.slots x.first) }
         ensures second { IfOk result (λ x. HasHolders (supply_in x) second self.now.slots x.second) }
     {
-        let mut pages = self.pages_of(rendition, &shown)?;
+        let mut pages = Pages::new(self.alloc, shown.again()?, rendition).unwrap();
         let (first, second) = self.holders_for_both(first, second, &mut pages, &part)?;
         Ok(Coming {
             rendition,
@@ -211,15 +211,6 @@ impl Room {
             first,
             second,
         })
-    }
-
-    /// Returns the pages of `rendition` in the channel `shown`, none of them written yet.
-    fn pages_of(&self, rendition: usize, shown: &Shown) -> Result<Pages, AllocError>
-        requires { rendition < length shown.now.renditions }
-        ensures { IfOk result (λ p. p ≡ record { moment = shown.now; rendition = rendition }) }
-    {
-        let before = self.written.rendered(rendition);
-        Ok(Pages::new(self.alloc, shown.again()?, rendition, before)?.unwrap())
     }
 
     /// Makes the replies of two releases, each `None` if there is no such release.
@@ -234,8 +225,9 @@ impl Room {
         ensures second { IfOk result (λ both. HasHolders (record { pages = pages.old; part = part.now }) second self.now.slots both.1) }
         ensures pages { pages.new ≡ pages.old }
     {
-        let first = holders_for(&self.book, self.alloc, first, pages, part)?;
-        let second = holders_for(&self.book, self.alloc, second, pages, part)?;
+        let before = self.written.rendered(pages.rendition());
+        let first = holders_for(&self.book, self.alloc, first, pages, before, part)?;
+        let second = holders_for(&self.book, self.alloc, second, pages, before, part)?;
         Ok((first, second))
     }
 

@@ -1,5 +1,5 @@
 -- The lines of the pieces are those of their rows.
-use Rattle.std.proofs.Common.{◌==◌, ◌++◌, ◌∙◌, ap, drop, map, string_bytes}
+use Rattle.std.proofs.Common.{◌++◌, ◌∙◌, ap, map, string_bytes}
 use Rattle.std.proofs.lemmas.Result.{on_ok_weaker}
 use Rattle.std.specs.Arc.{arc_value}
 use Rattle.std.specs.Prelude.{flat_map}
@@ -13,8 +13,7 @@ use Rattle.ll_page.proofs.pieces.Pieces.push_finished.Goals as goal
 
 pub returns : goal.returns
 returns c =
-    let leads = c.args.skipped == 0 in
     on_ok_weaker c.push_pieces.result (λ e. e ∙ ap (λ ls. string_bytes c.args.text.now ++ text_of ls)
-    (ap (λ xs. joined_lines leads (map arc_value (drop c.args.skipped xs))) c.deref.ensures.value
-    ∙ joined-finished arc_value leads c.args.skipped c.self.inside.finished.items c.self.invariant.0
-    ∙ ap (λ (p : PiecesOf). flat_map segment_lines (printed leads (drop c.args.skipped p.finished))) c.self.view_is)) c.push_pieces.ensures
+    (ap (λ xs. joined_lines c.args.leads (map arc_value xs)) c.deref.ensures.value
+    ∙ joined-finished arc_value c.args.leads c.self.inside.finished.items c.self.invariant.0
+    ∙ ap (λ (p : PiecesOf). flat_map segment_lines (printed c.args.leads p.finished)) c.self.view_is)) c.push_pieces.ensures

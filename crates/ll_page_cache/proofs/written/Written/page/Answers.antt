@@ -10,7 +10,7 @@ returns-in-Some-clause-page c =
     IfOk-weaker c.page.result _ _ (λ p is. is
     ∙ page-at c.args.shown.now c.self.inside.pages.items c.args.rendition c.in-Some.place c.index_mut.result.now c.args.form
     (subst (λ (w : WrittenOf). AreAt c.args.shown.now w.pages) (sym c.self.view_is) c.requires.current.here)
-    (sym c.in-Some.is ∙ c.place_of.ensures ∙ ap (position (is_of c.args.rendition)) c.deref.ensures.value) c.index_mut.ensures.value) c.page.ensures.page
+    (sym c.in-Some.is ∙ c.place_of-found.ensures ∙ ap (position (is_of c.args.rendition)) c.deref.ensures.value) c.index_mut.ensures.value) c.page.ensures.page
 
 pub returns-clause-current : goal.returns-clause-current
 returns-clause-current c =
@@ -18,4 +18,4 @@ returns-clause-current c =
     (written-more c.args.shown.now c.self.inside.pages.items _ c.args.rendition _
     (subst (λ (w : WrittenOf). AreWritten c.args.shown.now w.pages) (sym c.self.view_is) c.requires.current)
     c.in_ok-pages.ensures.pages
-    (sym c.in_default.is ∙ c.place_of.ensures ∙ ap (position (is_of c.args.rendition)) c.deref.ensures.value))
+    (sym c.in_default.is ∙ c.place_of-found.ensures ∙ ap (position (is_of c.args.rendition)) c.deref.ensures.value))

@@ -1,5 +1,5 @@
 use Rattle.ll_hub.proofs.TotalLemmas.{second, total-at}
-use Rattle.ll_hub.proofs.locks.ChannelLock.finish.Goals as goal
+use Rattle.ll_hub.proofs.lock.ChannelLock.finish.Goals as goal
 
 pub returns-clause-total : goal.returns-clause-total
 returns-clause-total g c settings home at =
