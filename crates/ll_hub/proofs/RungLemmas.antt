@@ -1,5 +1,5 @@
 -- A bell that is rung channel by channel.
-use Rattle.std.proofs.Common.{◌≡◌, ◌∙◌, ℕ, ◌+◌, suc, List, [], ◌∷◌, ◌++◌, Option, Some, None, length, ap, sym, refl, subst, append_assoc, append-nil, length-append, arith}
+use Rattle.std.proofs.Common.{◌≡◌, ◌∙◌, ℕ, ◌+◌, suc, List, [], ◌∷◌, ◌++◌, Option, Some, None, length, ap, sym, subst, append_assoc, append-nil, length-append, arith}
 use Rattle.ll_hub.specs.Rung.{IsRung, IsRungFrom, Ring, Rings, RingsAll, rings_from}
 
 abbrev ring : ℕ → ℕ → Ring

@@ -252,7 +252,7 @@ impl<'a, L: Ledgers> Section<'a, L> {
     /// Releases the lock of the channel, which is the one at place `place`, and rings `bell` for the replies that became ready. If there are
     /// any, wakes some of those that wait, and they wake the others.
     pub(crate) fn leave<B: Bell>(self, bell: &mut B, place: usize)
-        ensures { Rings (B.rung bell.old) (B.rung bell.new) place (length (filter is_ready (mutex_guard_value self.state).room.slots) - self.ready) }
+        ensures { Rings (B.rung bell.old) (B.rung bell.new) place (length (filter is_ready (mutex_guard_value self.entry.state).room.slots) - self.entry.ready) }
     {
         let Section {
             channel_lock,

@@ -2,7 +2,7 @@
 use crate::page_tests::Channel;
 use crate::rows::{column, number};
 use ll_attr::Text;
-use ll_page::{Page, Pieces, Shown, SkipKind, delta, full};
+use ll_page::{Page, Pieces, Rendered, Shown, SkipKind, delta, full};
 use std::alloc::{AllocError, Global};
 
 /// A channel, the index of a rendition, how many pieces are kept before each next moment, how many pages are joined, and how many of them differ from
@@ -23,10 +23,10 @@ struct Joined {
 
 impl Joined {
     /// Counts a page, which differs unless it has this text.
-    fn note(&mut self, page: Result<Option<Page>, AllocError>, text: Result<Text, AllocError>) {
-        let is_same = match (page, text) {
-            (Ok(Some(page)), Ok(text)) => page.text() == text.as_str(),
-            _ => false,
+    fn note(&mut self, page: &Page, text: Result<Text, AllocError>) {
+        let is_same = match text {
+            Ok(text) => page.text() == text.as_str(),
+            Err(_) => false,
         };
         self.pages = self.pages.saturating_add(1);
         self.differing = self.differing.saturating_add(u64::from(!is_same));
@@ -60,39 +60,44 @@ fn join(
     for line in lines.lines() {
         if channel.publish_line(alloc, line) {
             pieces.keep_last(keeps);
-            pieces = go_on(alloc, &channel, rendition, &pieces, &mut all)?;
+            let shown = Shown::of(alloc, &channel.settings, &channel.renditions, all.pages)?;
+            join_moment(alloc, &shown, rendition, &mut pieces, &mut all)?;
         }
     }
     Ok(all)
 }
 
-/// Returns the pieces of a moment, and counts its pages.
-fn go_on(
-    alloc: Global,
-    channel: &Channel,
-    rendition: usize,
-    before: &Pieces,
-    all: &mut Joined,
-) -> Result<Pieces, AllocError> {
-    let shown = Shown::of(alloc, &channel.settings, &channel.renditions, all.pages)?;
-    join_moment(alloc, &shown, rendition, before, all)
-}
-
-/// Returns the pieces of a moment, joins its full playlist and its delta update from them, and counts both.
+/// Joins the delta update of a moment and then its full playlist from `pieces`, and counts both. What is rendered for the update is kept in
+/// `pieces`, and at each other moment what is rendered for both.
 fn join_moment(
     alloc: Global,
     shown: &Shown,
     rendition: usize,
-    before: &Pieces,
+    pieces: &mut Pieces,
     all: &mut Joined,
-) -> Result<Pieces, AllocError> {
+) -> Result<(), AllocError> {
     let Some(view) = shown.view(rendition) else {
-        return Ok(Pieces::new(alloc));
+        return Ok(());
     };
-    let pieces = before.after(alloc, &view)?;
-    let page = Page::make_from(alloc, shown, rendition, &pieces, None);
-    all.note(page, full(alloc, &view));
-    let page = Page::make_from(alloc, shown, rendition, &pieces, Some(SkipKind::Yes));
-    all.note(page, delta(alloc, &view, SkipKind::Yes));
-    Ok(pieces)
+    let before = Rendered {
+        earlier: Some(&*pieces),
+        ..Rendered::none()
+    };
+    let kind = SkipKind::Yes;
+    let made = Page::make_from(alloc, shown, rendition, Some(kind), before)?;
+    let Some((update, of_update)) = made else {
+        return Ok(());
+    };
+    let before = Rendered {
+        own: Some(&of_update),
+        ..before
+    };
+    let Some((page, of_both)) = Page::make_from(alloc, shown, rendition, None, before)? else {
+        return Ok(());
+    };
+    let keeps_both = all.pages % 4 == 0;
+    all.note(&update, delta(alloc, &view, kind));
+    all.note(&page, full(alloc, &view));
+    pieces.renew(if keeps_both { of_both } else { of_update });
+    Ok(())
 }
