@@ -5,6 +5,7 @@ import functools
 import itertools
 import pathlib
 import re
+import resource
 import shutil
 import signal
 import subprocess
@@ -68,9 +69,9 @@ class Room:
         """Waits, unless all tests are over."""
         check(not self.over.wait(seconds), 'it was interrupted')
 
-    def comes(self, test, *words):
-        """Waits until `test` finds nothing wrong."""
-        for _ in range(200):
+    def comes(self, test, *words, seconds=10):
+        """Waits until `test` finds nothing wrong, for about `seconds` seconds at most."""
+        for _ in range(seconds * 20):
             try:
                 return test(*words)
             except (Wrong, OSError):
@@ -151,9 +152,9 @@ def feed(process, pieces):
     return source
 
 
-def ended(process, pieces=None):
-    """Waits for the end of a process, which gets these pieces of input, if there are some. One that takes too long is killed."""
-    limit = threading.Timer(SECONDS, process.kill)
+def ended(process, pieces=None, seconds=SECONDS):
+    """Waits for the end of a process, which gets these pieces of input, if there are some. One that takes longer than `seconds` seconds is killed."""
+    limit = threading.Timer(seconds, process.kill)
     limit.start()
     try:
         source = b'' if pieces is None else feed(process, pieces)
@@ -189,6 +190,12 @@ def told(tests, runs):
             failed += 1
             print(f"FAILED {' '.join(map(str, [test.__name__, *words]))}: {why}", flush=True)
     return failed
+
+
+def open_many_files():
+    """Lets this process, and those that it starts, open as many files as they are allowed to."""
+    files = resource.getrlimit(resource.RLIMIT_NOFILE)[1]
+    resource.setrlimit(resource.RLIMIT_NOFILE, (files, files))
 
 
 def interrupt(number, _):

@@ -84,6 +84,10 @@ class ServeRoom(Room):
         self.server = super().serve(*channels, **words)
         return self.server
 
+    def log(self):
+        """Returns what the server has written to standard error."""
+        return pathlib.Path(f'{self.server.process.name}.stderr').read_text()
+
     def replayed(self, lines, way='whole'):
         """Has replay run a script of these lines, of which those that begin with `say` are cut as tests/hex_lines.sh says. Returns the paths of the script and of what replay wrote."""
         script = self.run([HERE / 'hex_lines.sh', way], ''.join(f'{line}\n' for line in lines).encode())
