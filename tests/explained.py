@@ -2,7 +2,6 @@
 """explained.py PROGRAM: compares `llhls explain` for each entry of each right record of tests/check with a replay of that record's events. A script is made of the events of each of its
 chains, and replayed: the playlist that `explain` writes for an entry has to be the one of the script's answer, byte for byte, and the words have to be the entry's own; the number after the
 last entry has to be NoEntry. The last line, `N passed, M failed`, counts records."""
-import concurrent.futures
 import os
 import re
 import subprocess
@@ -132,11 +131,11 @@ def first_wrong(program, path):
 def main(program):
     names = [it for it in sorted(os.listdir(CHECK)) if not it.endswith(".stdout") and open(f"{CHECK}/{it}.stdout").read().startswith("ok ") and it != "two_long_chains"]
     failed = 0
-    with concurrent.futures.ThreadPoolExecutor(os.cpu_count()) as pool:
-        for name, fault in zip(names, pool.map(lambda name: first_wrong(program, f"{CHECK}/{name}"), names)):
-            failed += fault is not None
-            if fault:
-                print(f"FAILED {name}: entry {fault[0]} is explained so:\n{fault[1].decode()[:1000]}")
+    for name in names:
+        fault = first_wrong(program, f"{CHECK}/{name}")
+        failed += fault is not None
+        if fault:
+            print(f"FAILED {name}: entry {fault[0]} is explained so:\n{fault[1].decode()[:1000]}")
     print(f"{len(names) - failed} passed, {failed} failed")
     return failed > 0
 

@@ -89,10 +89,10 @@ class Room:
             self.processes.append(process)
         return process
 
-    def serve(self, *channels, workers=4, files=None):
-        """Starts a server with these channels, which can open as many files as others, or `files`. Waits until it has printed its ports."""
+    def serve(self, *lines, workers=4, files=None):
+        """Starts a server with these last lines of settings, which can open as many files as others, or `files`. Waits until it has printed its ports."""
         settings = self.folder / 'settings'
-        settings.write_text('\n'.join(['listen 127.0.0.1:0', 'publish 127.0.0.1:0', f'workers {workers}', *channels, '']))
+        settings.write_text('\n'.join(['listen 127.0.0.1:0', 'publish 127.0.0.1:0', f'workers {workers}', *lines, '']))
         limited = [] if files is None else ['bash', '-c', 'ulimit -n "$0" && exec "$@"', str(files)]
         process = self.start([*limited, self.program, 'serve', settings])
         for _ in range(400):

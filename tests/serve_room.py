@@ -79,9 +79,9 @@ class ServeRoom(Room):
         super().__init__(*words)
         self.server = None
 
-    def serve(self, *channels, **words):
-        """Starts the server."""
-        self.server = super().serve(*channels, **words)
+    def serve(self, *lines, **words):
+        """Starts the server with these last lines of settings."""
+        self.server = super().serve(*lines, **words)
         return self.server
 
     def log(self):
