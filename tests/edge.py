@@ -7,6 +7,7 @@ import getpass
 import grp
 import gzip
 import http.client
+import itertools
 import os
 import random
 import re
@@ -30,6 +31,7 @@ SECONDS = 20    # for any answer
 HANDED_OUT = 11     # seconds: records are handed out every 10
 FOLDER = '/cam/hi/'
 PRESENT = FOLDER + 'live.m3u8'
+PORTS = itertools.count(random.randrange(20000, 30000))
 OTHER_SITES = 'Access-Control-Allow-Origin'
 # What the record counts of requests, unless a test says otherwise.
 NONE = {'most held': 0, 'held and answered': 0, 'answered at once': 0, 'timed out': 0, 'given up': 0, 'too far': 0}
@@ -37,13 +39,15 @@ NONE = {'most held': 0, 'held and answered': 0, 'answered at once': 0, 'timed ou
 # ---- what runs
 
 
-def free_ports(count):
-    """Returns `count` ports at which nobody listens."""
-    with contextlib.ExitStack() as taken:
-        sockets = [taken.enter_context(socket.socket()) for _ in range(count)]
-        for each in sockets:
-            each.bind(('127.0.0.1', 0))
-        return [each.getsockname()[1] for each in sockets]
+def free_port():
+    """Returns a port at which nobody listens, another one each time, and none that the system gives to connections."""
+    for port in PORTS:
+        with socket.socket() as it:
+            try:
+                it.bind(('127.0.0.1', port))
+                return port
+            except OSError:
+                pass
 
 
 class EdgeRoom(ServeRoom):
@@ -52,7 +56,7 @@ class EdgeRoom(ServeRoom):
     def edge(self):
         """Starts the server, Varnish and nginx, and waits until all listen. Returns a publisher."""
         self.serve(f'record {self.folder}/record', CHANNEL, workers=64)
-        varnish, self.port, self.tls = free_ports(3)
+        varnish, self.port, self.tls = free_port(), free_port(), free_port()
         settings = self.folder / 'llhls.vcl'
         settings.write_text((EDGE / 'llhls.vcl').read_text().replace('"8080"', f'"{self.server.port}"'))
         self.start(['varnishd', *'-j none -F -T none -s malloc,64m -p backend_idle_timeout=20 -p timeout_idle=30 -n'.split(), self.folder / 'varnish', '-a', f'127.0.0.1:{varnish}', '-f', settings])
@@ -107,8 +111,12 @@ class EdgeRoom(ServeRoom):
 
     def recorded(self, files={}, **counts):
         """Tests that the record, once it is written, counts these requests and no others, and how often each of `files` was asked for. A name has `_` for a space."""
-        record = self.folder / 'record.cam'
         self.pause(HANDED_OUT)
+        self.comes(self.has_counts, files, counts)
+
+    def has_counts(self, files, counts):
+        """Tests what the record counts now."""
+        record = self.folder / 'record.cam'
         run = ended(self.start([self.program, 'explain', record]))
         check(run.status == 0, f"the record isn't right: {run.stderr}")
         lines = run.stdout.decode().splitlines()
