@@ -56,8 +56,8 @@ prove_chain() {
     keeps "$1/tiny" || return 0
     { read -ra chain && read -ra ends; } < <(longest_chain <"$2")
     count=${#chain[@]}
-    # This uses the processors that the chain's first crates leave idle.
-    prove_rest "$1/first" "$2" "${chain[1]-}" &
+    # This uses the processors that the chain's first crates leave idle, unless these were proved before.
+    (sleep 5 && ! grep -qs ' is kept: ' "$1/chain.log" && prove_rest "$1/first" "$2" "${chain[1]-}") &
     for ((at = 2 - (count - 1) % 2; at < count; at += 2)); do
         crate=${chain[at]}
         prove "$1/$crate" "$crate" | tee "$1/chain.log"
