@@ -66,13 +66,14 @@ proofs=$!
 until grep -Eqs '^rt: llhls (proved$|is kept: )' "$room/proofs" || [ -e "$room/proofs.status" ]; do
     sleep 1
 done
-for name in log.sh push.py record.sh; do
+for name in log.py push.py record.py; do
     begin "tests/$name" "$program"
     waiting=$((waiting + 1))
 done
 begin tests/killed.py "$program" 20
 waiting=$((waiting + 1))
-for name in mutated_playlists mutated_records upgrades explained connections dropped mutated_heads short_devices large rows; do
+start tests/explained.py "$program"
+for name in mutated_playlists mutated_records upgrades connections dropped mutated_heads short_devices large rows; do
     start "tests/$name.sh" "$program"
 done
 if [ -e "$by_rattle" ]; then
@@ -86,7 +87,7 @@ if grep -q '\.edit: BAD EDIT' "$room/proofs"; then
 fi
 start tests/refused_calls.sh crates/ll_refused/out/ll_refused
 finish
-for name in serve.py edge.sh watch.sh; do
+for name in serve.py edge.py watch.py; do
     show "tests/$name" "$program"
 done
 told_all

@@ -42,36 +42,66 @@ keeps() {
     (cd "$1" && rt ci && rt ci) 2>&1 | grep ' is kept: ' >/dev/null
 }
 
-# prove_chain FOLDER FILE: proves the crates of FILE, which has the form of crates.txt, in copies below FOLDER, those up to ll_serve first of all.
-# Some proofs may go on when it ends; the caller proves what is left. `lanes` is how many crates are proved side by side, or empty for as many as `rt
-# ci` finds memory for.
+# prove_chain FOLDER FILE: proves the crates of FILE, which has the form of crates.txt, in copies below FOLDER, those of the longest chain of what stands
+# on what first of all. Some proofs may go on when it ends; the caller proves what is left. `lanes` is how many crates are proved side by side, or empty
+# for as many as `rt ci` finds memory for.
 #
-# Most crates wait for one another in one long chain up to ll_serve and the program. A run of `rt ci` divides the processors among the crates that are
-# ready in it, and once it has proved one, it takes the next before another run can. So the chain has runs of its own, in which few crates are ready,
-# beside a niced run over what doesn't stand on ll_book, and then one over what doesn't stand on ll_serve. Each takes what another proves.
+# Most crates wait for one another in that chain. A run of `rt ci` divides the processors among the crates that are ready in it, and once it has proved
+# one, it takes the next before another run can. So the chain has runs of its own, in which few crates are ready: one up to each second crate, and one
+# for each crate in which it ends. Beside these are niced runs, over what doesn't stand on the chain's second crate, later on its middle, and at last on
+# the one below its ends. Each takes what another proves.
 prove_chain() {
-    local crate last=()
+    local chain ends count at crate last=()
     # If the kit keeps nothing, each run would begin anew.
     keeps "$1/tiny" || return 0
-    # These use the processors that ll_attr and ll_item leave idle.
-    (sleep 5 && RT_JOBS=2 prove "$1/beside" ll_device ll_mp4 ll_line) &
-    # If the chain's first crates were proved before, little is left.
-    prove "$1/ll_item" ll_item | tee "$1/item.log"
-    grep -q ' proved$' "$1/item.log" || return 0
-    prove_rest "$1/rest" "$2" ll_book &
-    prove "$1/ll_page" ll_page
-    prove "$1/ll_book" ll_book
-    prove "$1/ll_room" ll_room
-    prove_rest "$1/more" "$2" ll_serve &
-    prove "$1/ll_hub" ll_hub
-    prove "$1/ll_serve" ll_serve
-    for crate in ll_serve_tests llhls; do
-        if grep -q "^$crate:" "$2"; then
-            prove "$1/$crate" "$crate" &
-            last+=($!)
+    { read -ra chain && read -ra ends; } < <(longest_chain <"$2")
+    count=${#chain[@]}
+    # This uses the processors that the chain's first crates leave idle, unless these were proved before.
+    (sleep 5 && ! grep -qs ' is kept: ' "$1/chain.log" && prove_rest "$1/first" "$2" "${chain[1]-}") &
+    for ((at = 2 - (count - 1) % 2; at < count; at += 2)); do
+        crate=${chain[at]}
+        prove "$1/$crate" "$crate" | tee "$1/chain.log"
+        if [ "$at" -le 2 ]; then
+            # If the chain's first crates were proved before, little is left.
+            grep -q ' proved$' "$1/chain.log" || return 0
+            prove_rest "$1/second" "$2" "${chain[count / 2]}" &
+        elif [ $((at / 2)) = $((count / 4)) ]; then
+            prove_rest "$1/third" "$2" "${chain[count - 1]}" &
         fi
     done
+    for crate in "${ends[@]}"; do
+        prove "$1/$crate" "$crate" &
+        last+=($!)
+    done
     wait "${last[@]}"
+}
+
+# longest_chain: reads lines of crates.txt on standard input. Prints the longest chain of crates that stand on one another, without its last, and then a
+# line of all crates in which such a chain ends.
+longest_chain() {
+    awk -F ': *' '
+        { sub(/ *#.*/, "") }
+        $1 == "" { next }
+        {
+            high[$1] = 1
+            many = split($2, list, " ")
+            for (at = 1; at <= many; at++)
+                if (high[list[at]] >= high[$1]) {
+                    high[$1] = high[list[at]] + 1
+                    below[$1] = list[at]
+                }
+            if (high[$1] > most) ends = ""
+            if (high[$1] >= most) {
+                most = high[$1]
+                ends = ends $1 " "
+            }
+        }
+        END {
+            split(ends, list, " ")
+            for (crate = below[list[1]]; crate != ""; crate = below[crate]) chain = crate " " chain
+            print chain
+            print ends
+        }'
 }
 
 # prove_rest FOLDER FILE NAME: proves the crates of FILE that don't stand on NAME, in a copy at FOLDER, and tries their must-fail edits, which are

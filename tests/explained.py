@@ -1,14 +1,13 @@
-"""What tests/explained.sh runs: explained.py PROGRAM FOLDER.
-
-For each record of the folder that is right, makes a script of the events of each of its chains, and replays it. The playlist that `explain` writes for an entry
-has to be the one of the script's answer, byte for byte, and the words have to be the entry's own; the number after the last entry has to be NoEntry. The last line,
-`N passed, M failed`, counts records.
-"""
+#!/usr/bin/env python3
+"""explained.py PROGRAM: compares `llhls explain` for each entry of each right record of tests/check with a replay of that record's events. A script is made of the events of each of its
+chains, and replayed: the playlist that `explain` writes for an entry has to be the one of the script's answer, byte for byte, and the words have to be the entry's own; the number after the
+last entry has to be NoEntry. The last line, `N passed, M failed`, counts records."""
 import os
 import re
 import subprocess
 import sys
 
+CHECK = os.path.join(os.path.dirname(os.path.realpath(__file__)), "check")
 WORDS = {
     "notfound": "NotFound: there is no such rendition or media",
     "bad TooFar": "TooFar: what it awaits is too far ahead",
@@ -129,18 +128,17 @@ def first_wrong(program, path):
     return None
 
 
-def main(program, folder):
-    passed = failed = 0
-    for name in sorted(os.listdir(folder)):
-        path = f"{folder}/{name}"
-        if name.endswith(".stdout") or not open(f"{path}.stdout").read().startswith("ok ") or name == "two_long_chains":
-            continue
-        fault = first_wrong(program, path)
-        passed, failed = passed + (fault is None), failed + (fault is not None)
+def main(program):
+    names = [it for it in sorted(os.listdir(CHECK)) if not it.endswith(".stdout") and open(f"{CHECK}/{it}.stdout").read().startswith("ok ") and it != "two_long_chains"]
+    failed = 0
+    for name in names:
+        fault = first_wrong(program, f"{CHECK}/{name}")
+        failed += fault is not None
         if fault:
-            print(f"{name}: entry {fault[0]} is told so:\n{fault[1].decode()[:1000]}")
-    print(f"{passed} passed, {failed} failed")
+            print(f"FAILED {name}: entry {fault[0]} is explained so:\n{fault[1].decode()[:1000]}")
+    print(f"{len(names) - failed} passed, {failed} failed")
     return failed > 0
 
 
-sys.exit(main(*sys.argv[1:]))
+if __name__ == "__main__":
+    sys.exit(main(os.path.realpath(sys.argv[1])))

@@ -5,6 +5,7 @@ import functools
 import itertools
 import pathlib
 import re
+import resource
 import shutil
 import signal
 import subprocess
@@ -68,9 +69,9 @@ class Room:
         """Waits, unless all tests are over."""
         check(not self.over.wait(seconds), 'it was interrupted')
 
-    def comes(self, test, *words):
-        """Waits until `test` finds nothing wrong."""
-        for _ in range(200):
+    def comes(self, test, *words, seconds=10):
+        """Waits until `test` finds nothing wrong, for about `seconds` seconds at most."""
+        for _ in range(seconds * 20):
             try:
                 return test(*words)
             except (Wrong, OSError):
@@ -88,10 +89,10 @@ class Room:
             self.processes.append(process)
         return process
 
-    def serve(self, *channels, workers=4, files=None):
-        """Starts a server with these channels, which can open as many files as others, or `files`. Waits until it has printed its ports."""
+    def serve(self, *lines, workers=4, files=None):
+        """Starts a server with these last lines of settings, which can open as many files as others, or `files`. Waits until it has printed its ports."""
         settings = self.folder / 'settings'
-        settings.write_text('\n'.join(['listen 127.0.0.1:0', 'publish 127.0.0.1:0', f'workers {workers}', *channels, '']))
+        settings.write_text('\n'.join(['listen 127.0.0.1:0', 'publish 127.0.0.1:0', f'workers {workers}', *lines, '']))
         limited = [] if files is None else ['bash', '-c', 'ulimit -n "$0" && exec "$@"', str(files)]
         process = self.start([*limited, self.program, 'serve', settings])
         for _ in range(400):
@@ -151,9 +152,9 @@ def feed(process, pieces):
     return source
 
 
-def ended(process, pieces=None):
-    """Waits for the end of a process, which gets these pieces of input, if there are some. One that takes too long is killed."""
-    limit = threading.Timer(SECONDS, process.kill)
+def ended(process, pieces=None, seconds=SECONDS):
+    """Waits for the end of a process, which gets these pieces of input, if there are some. One that takes longer than `seconds` seconds is killed."""
+    limit = threading.Timer(seconds, process.kill)
     limit.start()
     try:
         source = b'' if pieces is None else feed(process, pieces)
@@ -189,6 +190,12 @@ def told(tests, runs):
             failed += 1
             print(f"FAILED {' '.join(map(str, [test.__name__, *words]))}: {why}", flush=True)
     return failed
+
+
+def open_many_files():
+    """Lets this process, and those that it starts, open as many files as they are allowed to."""
+    files = resource.getrlimit(resource.RLIMIT_NOFILE)[1]
+    resource.setrlimit(resource.RLIMIT_NOFILE, (files, files))
 
 
 def interrupt(number, _):

@@ -3,9 +3,7 @@
 tests/follow.c demands the same bytes on each connection. Then come crowds, peers that are slow, silent, cut off or gone, large media, ports and files that aren't available, and each
 fault of a settings file. SLOW=1 adds what takes more than the 30 seconds of a silent peer. The last line is `N passed, M failed`."""
 import os
-import pathlib
 import random
-import resource
 import signal
 import subprocess
 import sys
@@ -14,7 +12,7 @@ import tempfile
 import serve_held
 import serve_media
 import serve_silent
-from rooms import check, try_named
+from rooms import check, open_many_files, try_named
 from serve_room import CAM, HERE, NEXT, PART, PRESENT, Crowd, ServeRoom, has_nothing_more, request, say
 from serve_rows import BAD_SETTINGS, WRONG_WORDS
 
@@ -115,7 +113,7 @@ def files_run_out(room):
         room.pause(0.5)
     room.is_served()
     room.publish(PART, 'ok 1')
-    log = pathlib.Path(f'{room.server.process.name}.stderr').read_text()
+    log = room.log()
     check(log.count('\n') <= 3, log)
 
 
@@ -262,8 +260,7 @@ def all_tests():
 
 
 def main(path, *names):
-    files = resource.getrlimit(resource.RLIMIT_NOFILE)[1]
-    resource.setrlimit(resource.RLIMIT_NOFILE, (files, files))
+    open_many_files()
     with tempfile.TemporaryDirectory() as folder:
         ServeRoom.follower = f'{folder}/follow'
         subprocess.run([os.environ.get('CC') or 'cc', *'-O2 -Wall -Wextra -Werror -o'.split(), ServeRoom.follower, HERE / 'follow.c'], check=True)

@@ -79,10 +79,14 @@ class ServeRoom(Room):
         super().__init__(*words)
         self.server = None
 
-    def serve(self, *channels, **words):
-        """Starts the server."""
-        self.server = super().serve(*channels, **words)
+    def serve(self, *lines, **words):
+        """Starts the server with these last lines of settings."""
+        self.server = super().serve(*lines, **words)
         return self.server
+
+    def log(self):
+        """Returns what the server has written to standard error."""
+        return pathlib.Path(f'{self.server.process.name}.stderr').read_text()
 
     def replayed(self, lines, way='whole'):
         """Has replay run a script of these lines, of which those that begin with `say` are cut as tests/hex_lines.sh says. Returns the paths of the script and of what replay wrote."""
