@@ -401,6 +401,14 @@ def functions(room):
     check(page.value(f'applied({json.dumps(base)}, {json.dumps(full)})') == full, 'a full playlist is changed')
     early, late = (re.sub('(?<=MEDIA-SEQUENCE:)[0-9]+', number, delta) for number in ('0', '99'))
     check(page.value(f'[applied({json.dumps(base)}, {json.dumps(early)}), applied({json.dumps(base)}, {json.dumps(late)})]') == [None, None], 'an update that does not fit is applied')
+    endings, rows = (ROOT / 'tests/endings').read_text(), 0
+    for row in sorted((ROOT / 'tests/apply').iterdir()):
+        base, delta, wanted = ((row / name).read_bytes().replace(b'\r\n', b'\n').decode(errors='replace') for name in ('base', 'delta', 'stdout'))
+        # The page asks for no updates that leave out date ranges. Texts that can't be read are none that a server sends.
+        if '-REMOVED-' not in delta and (wanted or f'apply/{row.name} 3 llhls: NotRecent' in endings):
+            rows += 1
+            check(page.value(f'applied({json.dumps(base)}, {json.dumps(delta)})') == (wanted or None), f'{row.name} is applied otherwise')
+    check(rows > 20, f'{rows} rows were tried')
 
 
 TESTS = (half_a_minute, renditions, texts_are_texts, functions)
