@@ -30,9 +30,9 @@ HARM = '<img src=x onerror=window.harmed=1>'
 # ---- what is published
 
 CODED = '-nostdin -v error -f lavfi -i testsrc2=size={}:rate=25 -f lavfi -i sine=frequency={} -t {} {} -pix_fmt yuv420p -g 50 -c:a aac -f mp4 -y'
-H264 = '-c:v libx264 -preset ultrafast -tune zerolatency'
+H264 = '-c:v libx264 -preset ultrafast -tune zerolatency -b:v {}k -maxrate {}k -bufsize 100k'
 AV1 = '-c:v libaom-av1 -cpu-used 8 -usage realtime -crf 45 -b:v 300k'
-MOVIES = {'first': ('640x360', 440, 12, H264), 'other': ('480x270', 660, 5, AV1), 'small': ('320x180', 880, 4, H264)}
+MOVIES = {'first': ('640x360', 440, 12, H264.format(500, 500)), 'other': ('480x270', 660, 5, AV1), 'small': ('320x180', 880, 4, H264.format(150, 150))}
 # In real time, with a fragment for each frame, as in docs/OPERATING.md.
 IN_TIME = '-c copy -f mp4 -movflags +delay_moov+default_base_moof -frag_duration 1000 -'
 
@@ -87,10 +87,10 @@ class PageRoom(Room):
         self.until(20, lambda: self.page.value('document.readyState === "complete"'), "the page isn't there")
         return self.page
 
-    def says(self, text, seconds=20):
+    def says(self, text, seconds=30):
         self.until(seconds, lambda: self.page.value('at("says").textContent') == text, f'the page does not say {text!r}')
 
-    def width(self, pixels, seconds=20):
+    def width(self, pixels, seconds=30):
         self.until(seconds, lambda: self.page.value('video.videoWidth') == pixels, f'the picture is not {pixels} wide')
 
     def fault(self):
@@ -134,7 +134,7 @@ def broadcast(room):
     third.kill()
     third.wait()
     push.stdin.close()
-    push.wait()
+    push.wait(timeout=30)
     push = room.push()
     fourth = room.encode(push, 'first')
     room.has_parts(10)
@@ -142,15 +142,16 @@ def broadcast(room):
     # (The relay's next life begins before the server's, so that nothing of the new one counts for the old one.)
     server.process.kill()
     server.process.wait()
+    room.restarted = time.time()
     room.tee.lives.append([])
     room.open_server()
     fourth.kill()
     push.stdin.close()
-    push.wait()
+    push.wait(timeout=30)
     push = room.push('end')
     room.encode(push, 'other').wait()
     push.stdin.close()
-    push.wait()
+    push.wait(timeout=30)
     room.says(ENDED)
     room.until(20, lambda: page.value('video.ended'), 'the video does not end')
 
@@ -246,14 +247,13 @@ def half_a_minute(room):
     seen = page.value('watched')
     runs = [[entry for entry in seen['appended'] if entry['run'] == number] for number in range(1 + max(entry['run'] for entry in seen['appended']))]
     check(len(runs) == 2, f'the page began {len(runs)} times, and 2 are wanted')
-    # The notes of each life of the server: the second one begins with the last playlist that isn't awaited.
-    begins = [note.asked for note in notes if note.path.endswith('.m3u8') and note.status == 200][-1]
     late, count, dry = [], 0, []
     for number, run in enumerate(runs):
         items = room.tee.items(number, room.start_time)
         had = order(run, items, number == 0)
         at_their_times(run, had)
-        own = [note for note in notes if (note.asked >= begins) == (number == 1)]
+        # What was asked for before the restart has no answer after it.
+        own = [note for note in notes if (note.asked >= room.restarted) == (number == 1)]
         late += asked_ahead(own, had)
         first = next(item.accepted for item in items if item.name == had[1].name)
         published = [item for item in items if item.name != 'init' and item.accepted and item.accepted >= first]
@@ -290,10 +290,10 @@ def renditions(room):
     room.open_server()
     for name, movie in ('video', 'first'), ('small', 'small'):
         room.encode(room.push(rendition=name), movie, '-stream_loop', '-1')
-    room.host.fixed['/main.m3u8'] = (200, 'application/vnd.apple.mpegurl', b'#EXTM3U\n#EXT-X-STREAM-INF:BANDWIDTH=2000000,RESOLUTION=640x360,CODECS="avc1.64001e,mp4a.40.2"\n/demo/video/live.m3u8\n'
-                                     b'#EXT-X-STREAM-INF:BANDWIDTH=9000000,CODECS="nothing"\n/none/none/live.m3u8\n#EXT-X-STREAM-INF:BANDWIDTH=400000\n/demo/small/live.m3u8\n')
-    room.host.slow['/demo/video/'] = 300000
-    room.has_parts(12)
+    room.host.fixed['/main.m3u8'] = (200, 'application/vnd.apple.mpegurl', b'#EXTM3U\n#EXT-X-STREAM-INF:BANDWIDTH=800000,RESOLUTION=640x360,CODECS="avc1.64001e,mp4a.40.2"\n/demo/video/live.m3u8\n'
+                                     b'#EXT-X-STREAM-INF:BANDWIDTH=9000000,CODECS="nothing"\n/none/none/live.m3u8\n#EXT-X-STREAM-INF:BANDWIDTH=300000\n/demo/small/live.m3u8\n')
+    room.host.slow['/demo/video/'] = 100000
+    room.until(30, lambda: all(len(room.tee.items(-1, 0, name)) > 6 for name in ('video', 'small')), 'there are no parts of both')
     page = room.open_page('/main.m3u8')
     room.width(320)
     check(page.value('watched.sizes') == ['640x360', '320x180'], f"the sizes of the picture: {page.value('watched.sizes')}")
@@ -302,7 +302,7 @@ def renditions(room):
     page.value('at("choice").value = [...at("choice").options].find(each => each.value.includes("/small/")).value, at("choice").dispatchEvent(new Event("change"))')
     room.width(320)
     room.until(10, lambda: not room.host.notes[-1].path.startswith('/demo/video/'), 'the other rendition is still asked for')
-    check(page.value('[...at("choice").options].map(each => each.text)') == ['by the speed of the link', '400 kbit/s, /demo/small/live.m3u8', '640x360, 2000 kbit/s, /demo/video/live.m3u8'], 'the renditions have other names')
+    check(page.value('[...at("choice").options].map(each => each.text)') == ['by the speed of the link', '300 kbit/s, /demo/small/live.m3u8', '640x360, 800 kbit/s, /demo/video/live.m3u8'], 'the renditions have other names')
     wholly_there(page, 3)
     room.open_page('/demo/small/live.m3u8')
     room.width(320)
@@ -312,10 +312,12 @@ def renditions(room):
 
 
 def wholly_there(page, changes):
-    """The buffer has no hole, nothing was refused, and no picture was shown after a later one."""
+    """The buffer has no hole that can be seen, nothing was refused, and no picture was shown after a later one."""
     seen = page.value('watched')
     ranges = page.value('[...Array(video.buffered.length).keys()].map(each => [video.buffered.start(each), video.buffered.end(each)])')
-    check(len(ranges) == 1 and len({entry['run'] for entry in seen['appended']}) == 1, f'the buffer has {ranges}')
+    # (Frames of sound of two renditions don't meet to the millisecond.)
+    holes = [after[0] - before[1] for before, after in zip(ranges, ranges[1:])]
+    check(not [hole for hole in holes if hole > 0.06] and len({entry['run'] for entry in seen['appended']}) == 1, f'the buffer has {ranges}')
     check(len(seen['sizes']) == changes + 1 and not seen['wrong'] and not seen['back'], f"{seen['sizes']} {seen['wrong']} {seen['back']}")
 
 

@@ -12,7 +12,7 @@ import near  # noqa: E402
 
 
 class Note(NamedTuple):
-    """A request of the page: when it came and was answered, its path with the query, and the answer's status and body."""
+    """A request of the page: when it came and began to be answered, its path with the query, and the answer's status and body."""
 
     asked: float
     answered: float
@@ -49,8 +49,10 @@ class Noting(near.Near):
             super().do_GET()
 
     def answer(self, status, kind, body):
+        # The page may ask again before this goes on.
+        note = Note(self.asked, time.time(), self.path, status, body)
         super().answer(status, kind, body)
-        self.host.notes.append(Note(self.asked, time.time(), self.path, status, body))
+        self.host.notes.append(note)
 
     def give(self, body):
         speed = next((each for path, each in self.host.slow.items() if self.path.startswith(path) and 'm3u8' not in self.path), None)
