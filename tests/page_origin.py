@@ -56,11 +56,11 @@ class Noting(near.Near):
 
     def give(self, body):
         speed = next((each for path, each in self.host.slow.items() if self.path.startswith(path) and 'm3u8' not in self.path), None)
-        step = len(body) or 1 if speed is None else 4096
+        start, step = time.monotonic(), len(body) or 1 if speed is None else 4096
         for place in range(0, len(body), step):
             super().give(body[place:place + step])
             if speed is not None:
-                time.sleep(step / speed)
+                time.sleep(max(0, start + (place + step) / speed - time.monotonic()))
 
 
 class Item(NamedTuple):
