@@ -6,7 +6,6 @@ Latency, frames dropped and most stalls are printed, since they depend on the ma
 nothing. The last line is `N passed, M failed`."""
 import hashlib
 import json
-import os
 import pathlib
 import re
 import shutil
@@ -289,14 +288,26 @@ def report(page, seen, count, applied, ahead):
 
 # ---- renditions
 
+M3U8 = 'application/vnd.apple.mpegurl'
+VARIANTS = '''#EXTM3U
+#EXT-X-STREAM-INF:BANDWIDTH=800000,RESOLUTION=640x360,CODECS="avc1.64001e,mp4a.40.2"
+/demo/video/live.m3u8
+#EXT-X-STREAM-INF:BANDWIDTH=9000000,CODECS="nothing"
+/none/none/live.m3u8
+#EXT-X-STREAM-INF:BANDWIDTH=300000
+/demo/small/live.m3u8
+'''
+NAMES = ['by the speed of the link', '300 kbit/s, /demo/small/live.m3u8', '640x360, 800 kbit/s, /demo/video/live.m3u8']
+CHOOSE = 'at("choice").value = [...at("choice").options].find(each => each.value.includes("/{}/")).value, at("choice").dispatchEvent(new Event("change"))'
+
+
 @pictured
 def renditions(room):
-    """A rendition is chosen by the speed of the link, and by hand; the picture goes on without a hole."""
+    """A rendition is chosen by the speed of the link, and by hand; the picture goes on."""
     room.open_server()
     for name, movie in ('video', 'first'), ('small', 'small'):
         room.encode(room.push(rendition=name), movie, '-stream_loop', '-1')
-    room.host.fixed['/main.m3u8'] = (200, 'application/vnd.apple.mpegurl', b'#EXTM3U\n#EXT-X-STREAM-INF:BANDWIDTH=800000,RESOLUTION=640x360,CODECS="avc1.64001e,mp4a.40.2"\n/demo/video/live.m3u8\n'
-                                     b'#EXT-X-STREAM-INF:BANDWIDTH=9000000,CODECS="nothing"\n/none/none/live.m3u8\n#EXT-X-STREAM-INF:BANDWIDTH=300000\n/demo/small/live.m3u8\n')
+    room.host.fixed['/main.m3u8'] = 200, M3U8, VARIANTS.encode()
     room.host.slow['/demo/video/'] = 100000
     room.until(30, lambda: all(len(room.tee.items(-1, 0, name)) > 6 for name in ('video', 'small')), 'there are no parts of both')
     page = room.open_page('/main.m3u8')
@@ -304,27 +315,31 @@ def renditions(room):
     check(page.value('watched.sizes.slice(0, 2)') == ['640x360', '320x180'], f"the sizes of the picture: {page.value('watched.sizes')}")
     room.host.slow.clear()
     room.width(640)
-    page.value('at("choice").value = [...at("choice").options].find(each => each.value.includes("/small/")).value, at("choice").dispatchEvent(new Event("change"))')
+    page.value(CHOOSE.format('small'))
     room.width(320)
     room.until(10, lambda: not room.host.notes[-1].path.startswith('/demo/video/'), 'the other rendition is still asked for')
-    check(page.value('[...at("choice").options].map(each => each.text)') == ['by the speed of the link', '300 kbit/s, /demo/small/live.m3u8', '640x360, 800 kbit/s, /demo/video/live.m3u8'], 'the renditions have other names')
-    wholly_there(page, 3)
+    check(page.value('[...at("choice").options].map(each => each.text)') == NAMES, 'the renditions have other names')
+    # (What the slow link didn't bring in time is left out.)
+    goes_on(page, 3)
     room.open_page('/demo/small/live.m3u8')
     room.width(320)
-    room.page.value('at("choice").value = [...at("choice").options].find(each => each.value.includes("/video/")).value, at("choice").dispatchEvent(new Event("change"))')
+    room.page.value(CHOOSE.format('video'))
     room.width(640)
-    wholly_there(room.page, 1)
+    goes_on(room.page, 1)
+    has_no_hole(room.page)
 
 
-def wholly_there(page, changes):
-    """The buffer has no hole that can be seen, nothing was refused, and no picture was shown after a later one."""
+def goes_on(page, changes):
+    """Nothing was refused, the page didn't begin anew, and no picture was shown after a later one."""
     seen = page.value('watched')
-    ranges = page.value('[...Array(video.buffered.length).keys()].map(each => [video.buffered.start(each), video.buffered.end(each)])')
-    # (Frames of sound of two renditions don't meet to the millisecond.)
-    holes = [after[0] - before[1] for before, after in zip(ranges, ranges[1:])]
-    check(not [hole for hole in holes if hole > 0.06] or seen['lag'] > LAG, f'the buffer has {ranges}')
     check(len({entry['run'] for entry in seen['appended']}) == 1, 'the page has begun anew')
     check(len(seen['sizes']) > changes and not seen['wrong'] and not seen['back'], f"{seen['sizes']} {seen['wrong']} {seen['back']}")
+
+
+def has_no_hole(page):
+    """The buffer has no hole that can be seen. (Frames of sound of two renditions don't meet to the millisecond.)"""
+    ranges = page.value('[...Array(video.buffered.length).keys()].map(each => [video.buffered.start(each), video.buffered.end(each)])')
+    check(all(after[0] - before[1] < 0.06 for before, after in zip(ranges, ranges[1:])) or page.value('watched.lag') > LAG, f'the buffer has {ranges}')
 
 
 # ---- texts
@@ -341,8 +356,8 @@ def listed(parts):
         if number + 1 == len(parts) or parts[number + 1][1]:
             lines += [f'#EXTINF:{begin / 1e6:.6f},', f'{HARM}.m4s']
             begin = 0
-    head = ['#EXTM3U', '#EXT-X-VERSION:10', '#EXT-X-TARGETDURATION:2', '#EXT-X-PART-INF:PART-TARGET=0.5', '#EXT-X-MEDIA-SEQUENCE:0', f'#EXT-X-DATERANGE:ID="{HARM}",START-DATE="2026-01-01T00:00:00Z"',
-            f'#EXT-X-RENDITION-REPORT:URI="{HARM}/live.m3u8"', '#EXT-X-MAP:URI="map.mp4"']
+    head = ['#EXTM3U', '#EXT-X-VERSION:10', '#EXT-X-TARGETDURATION:2', '#EXT-X-PART-INF:PART-TARGET=0.5', '#EXT-X-MEDIA-SEQUENCE:0',
+            f'#EXT-X-DATERANGE:ID="{HARM}",START-DATE="2026-01-01T00:00:00Z"', f'#EXT-X-RENDITION-REPORT:URI="{HARM}/live.m3u8"', '#EXT-X-MAP:URI="map.mp4"']
     return '\n'.join([*head, *lines, '#EXT-X-ENDLIST', '']), answers
 
 
@@ -353,12 +368,11 @@ def texts_are_texts(room):
     section, _, _, parts = publish.parts((ROOT / 'examples/pattern.mp4').read_bytes())
     text, answers = listed(parts)
     folder = '/odd/video/'
-    room.host.fixed = {folder + name.replace(' ', '%20').replace('<', '%3C').replace('>', '%3E'): (200, 'video/mp4', data) for name, data in answers.items()}
-    room.host.fixed |= {f'{folder}map.mp4': (200, 'video/mp4', section), f'{folder}live.m3u8': (200, 'application/vnd.apple.mpegurl', text.encode()),
-                        f'{folder}bad.m3u8': (404, 'text/html', HARM.encode()),
-                        f'{folder}main.m3u8': (200, 'application/vnd.apple.mpegurl', f'#EXTM3U\n#EXT-X-STREAM-INF:BANDWIDTH=1,RESOLUTION="{HARM}"\nlive.m3u8?{HARM}\n#EXT-X-STREAM-INF:BANDWIDTH=2\nlive.m3u8\n'.encode())}
-    plain = f'{folder}live.m3u8'
-    room.host.fixed[plain + '?' + HARM.replace(' ', '%20').replace('<', '%3C').replace('>', '%3E')] = room.host.fixed[plain]
+    variants = f'#EXTM3U\n#EXT-X-STREAM-INF:BANDWIDTH=1,RESOLUTION="{HARM}"\nlive.m3u8?{HARM}\n#EXT-X-STREAM-INF:BANDWIDTH=2\nlive.m3u8\n'
+    list_ = 200, M3U8, text.encode()
+    texts = {'main.m3u8': (200, M3U8, variants.encode()), 'live.m3u8': list_, f'live.m3u8?{HARM}': list_, 'bad.m3u8': (404, 'text/html', HARM.encode())}
+    media = {name: (200, 'video/mp4', data) for name, data in (*answers.items(), ('map.mp4', section))}
+    room.host.fixed = {folder + name.replace(' ', '%20').replace('<', '%3C').replace('>', '%3E'): answer for name, answer in (texts | media).items()}
     page = room.open_page(f'{folder}main.m3u8')
     room.says(ENDED)
     room.until(20, lambda: page.value('video.ended'), 'the video does not end')
