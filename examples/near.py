@@ -44,11 +44,8 @@ class Near(http.server.BaseHTTPRequestHandler):
         self.send_response(status)
         for name, value in ("Content-Type", kind), ("Content-Length", str(len(body))), ("Cache-Control", "no-cache"):
             self.send_header(name, value)
-        try:
-            self.end_headers()
-            self.give(body)
-        except ConnectionError:
-            self.close_connection = True
+        self.end_headers()
+        self.give(body)
 
     def give(self, body):
         self.wfile.write(body)
@@ -58,11 +55,16 @@ class Near(http.server.BaseHTTPRequestHandler):
         """Writes nothing for a request."""
 
 
-def server(port, handler=Near):
-    """Returns a server at this port, or one of the system's choice if it is 0."""
-    served = http.server.ThreadingHTTPServer(("127.0.0.1", port), handler)
-    served.daemon_threads = True
-    return served
+class Server(http.server.ThreadingHTTPServer):
+    """A server at a port of this machine alone, of the system's choice if it is 0."""
+
+    def __init__(self, port, handler=Near):
+        super().__init__(("127.0.0.1", port), handler)
+
+    def handle_error(self, *words):
+        """Says nothing of a viewer that has gone."""
+        if not isinstance(sys.exc_info()[1], ConnectionError):
+            super().handle_error(*words)
 
 
 if __name__ == "__main__":
@@ -71,6 +73,6 @@ if __name__ == "__main__":
     Near.origin = int(sys.argv[2])
     Near.folder = pathlib.Path(sys.argv[3]) if len(sys.argv) > 3 else Near.folder
     try:
-        server(int(sys.argv[1])).serve_forever()
+        Server(int(sys.argv[1])).serve_forever()
     except KeyboardInterrupt:
         pass

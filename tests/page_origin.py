@@ -27,7 +27,7 @@ class Host:
     def __init__(self):
         self.notes, self.fixed, self.slow = [], {}, {}
         self.handler = type('Noting', (Noting,), {'host': self})
-        self.server = near.server(0, self.handler)
+        self.server = near.Server(0, self.handler)
         self.port = self.server.server_port
         threading.Thread(target=self.server.serve_forever, daemon=True).start()
 
