@@ -82,7 +82,7 @@ class PageRoom(Room):
         """Starts an encoder of a movie."""
         return self.start(['ffmpeg', '-nostdin', '-v', 'error', '-re', *words, '-i', self.movies / f'{name}.mp4', *IN_TIME.split()], stdout=push.stdin)
 
-    def has_parts(self, count, seconds=20):
+    def has_parts(self, count, seconds=60):
         """Waits until this many parts more are accepted."""
         wanted = self.tee.parts() + count
         self.until(seconds, lambda: self.tee.parts() >= wanted, f'there are no {count} parts more')
@@ -141,7 +141,7 @@ def broadcast(room):
     third.kill()
     third.wait()
     push.stdin.close()
-    push.wait(timeout=30)
+    push.wait(timeout=60)
     push = room.push()
     fourth = room.encode(push, 'first')
     room.has_parts(10)
@@ -154,11 +154,11 @@ def broadcast(room):
     room.open_server()
     fourth.kill()
     push.stdin.close()
-    push.wait(timeout=30)
+    push.wait(timeout=60)
     push = room.push('end')
     room.encode(push, 'other').wait()
     push.stdin.close()
-    push.wait(timeout=30)
+    push.wait(timeout=60)
     room.says(ENDED)
     room.until(20, lambda: page.value('video.ended'), 'the video does not end')
 
