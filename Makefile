@@ -13,7 +13,7 @@ help:
 	@echo 'make try              runs each row of input and output on the program before it is proved, with checks'
 	@echo 'make refused-memory   refuses each allocation of the program in turn'
 	@echo 'make bench            measures speed and memory'
-	@echo 'make demo             builds the program where it is not built, and shows a picture: ffmpeg, push and serve'
+	@echo 'make demo             shows a picture in a browser, in a minute or two and before anything is proved: ffmpeg, push, serve and a page'
 
 run: kit
 	@$(HERE)tests/run.sh
@@ -52,7 +52,7 @@ bench: kit
 	@$(HERE)bench/soak.sh
 
 demo: kit
-	@exec $(HERE)examples/demo.sh "$$($(HERE)tests/program.sh)"
+	@exec $(HERE)examples/demo.sh
 
 .PHONY: kit
 kit:

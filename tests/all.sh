@@ -5,7 +5,7 @@
 # is tested with devices that give and take a few bytes at a time, large inputs, mutated playlists, mutated records, records in format 2, entries that
 # are explained, the bytes of connections cut in every way, connections that end too early, mutated heads, and calls whose memory is refused; and with
 # the server's log, what is published to it, and its records, which mostly wait. Then come, one at a time, the server with real sockets, what stands
-# in front of it, and a player that watches it. The last line is the sum, `N passed, M failed`.
+# in front of it, a player that watches it, and a page in a browser. The last line is the sum, `N passed, M failed`.
 . "$(dirname "${BASH_SOURCE[0]}")/common.sh" || exit 2
 cd "$root" || exit 2
 . tests/copy.sh
@@ -87,7 +87,7 @@ if grep -q '\.edit: BAD EDIT' "$room/proofs"; then
 fi
 start tests/refused_calls.sh crates/ll_refused/out/ll_refused
 finish
-for name in serve.py edge.py watch.py; do
+for name in serve.py edge.py watch.py page.py; do
     show "tests/$name" "$program"
 done
 told_all
