@@ -137,6 +137,7 @@ fn item_text(
 {
     let length = bytes.len();
     let mut message = format!(in alloc; "{channel} {line} {length}\n")?.into_bytes();
+    message.reserve(bytes.len() + 1)?;
     message.extend_from_slice(bytes)?;
     message.push(b'\n')?;
     Ok(message)

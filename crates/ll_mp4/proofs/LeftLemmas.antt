@@ -1,7 +1,9 @@
 -- What is left, when bytes are dropped as they come.
-use Rattle.std.proofs.Common.{◌≡◌, ℕ, zero, suc, ◌+◌, ◌-◌, ◌≤◌, ◌<◌, ◌==◌, List, [], ◌++◌, Bool, true, false, Some, None, Ok, Err, refl, ap, sym, ◌∙◌, length, drop, nat_lt, length-append, length-drop, append_assoc, append-nil, arith}
+use Rattle.std.proofs.Common.{◌≡◌, ℕ, zero, suc, ◌+◌, ◌-◌, ◌≤◌, ◌<◌, ◌==◌, List, [], ◌++◌, Bool, true, false, Some, None, Ok, Err, refl, ap, sym, ◌∙◌, length, drop, take, take_all, nat_lt, length-append, length-drop, append_assoc, append-nil, arith}
 use borrow.Author.Tests.{ltb-false, ltb-true}
+use Rattle.std.specs.List.{copy_within}
 use Rattle.std.proofs.lemmas.List.{drop-append-le, drop-drop, drop_all}
+use Rattle.std.proofs.lemmas.List.Edits.{take-paste}
 use Rattle.std.proofs.Math.Seq.{drop-append-add, drop-nil}
 use Rattle.ll_mp4.specs.Boxes.{Front, Header, after, and_then, boxes, front_by, front_of, header_of}
 use Rattle.ll_mp4.specs.Lefts.{Left, at_front, dropped, fed, index_size, is_index, size_where, without_index}
@@ -47,6 +49,15 @@ fed-on left bytes more = dropped-on left.skip (left.unread ++ bytes) more ∙ ap
 -- more of them
 dropped-more : (n m : ℕ) (bytes : List ℕ) → n ≤ length bytes → dropped m (drop n bytes) ≡ dropped (n + m) bytes
 dropped-more n m bytes l = let a = length-drop n bytes in same-left _ _ _ _ (omega (arith, a, l)) (drop-drop m n bytes)
+
+-- bytes whose first n were given out, once the others are copied to the front and what is left behind them is cut off
+pub cut_front : (n m len : ℕ) (bytes : List ℕ) → len ≡ length bytes → n ≤ len → m ≡ len - n → take m (copy_within bytes n len 0) ≡ drop n bytes
+cut_front n m len bytes whole l e =
+    let rest : length (drop n bytes) ≡ length bytes - n = length-drop n bytes in
+    let more : m ≡ 0 + (len - n) = omega (arith, e) in
+    ap (λ k. take k (copy_within bytes n len 0)) more
+    ∙ take-paste bytes 0 (drop n bytes) (len - n) (omega (arith, whole, l)) (omega (arith, rest, whole))
+    ∙ take_all (len - n) (drop n bytes) (omega (arith, rest, whole))
 
 -- ---- `mfra` boxes at the front
 

@@ -108,11 +108,14 @@ impl Splitter {
     }
 
     /// Drops the bytes that were given out once they are more than the others, so that fewer bytes are moved than dropped.
+    #[tactic(auto, using(crate::proofs::LeftLemmas::cut_front))]
     fn forget_given(&mut self)
         ensures { self.new ≡ self.old }
     {
         if self.at > self.bytes.len() / 2 {
-            self.bytes.drain(..self.at);
+            let left = self.bytes.len() - self.at;
+            self.bytes.copy_within(self.at.., 0);
+            self.bytes.truncate(left);
             self.at = 0;
         }
     }

@@ -151,6 +151,7 @@ impl Publication {
         ensures endless { IsErrOf result PushFault.Endless → R.reads source.old + most ≤ R.reads source.new }
         ensures later { R.reads source.old ≤ R.reads source.new }
     {
+        let mut piece = [0; PIECE];
         for _ in 0..u64::MAX {
             if let Some(message) = self.ready(alloc, target, clock)? {
                 return Ok(Some(message));
@@ -158,7 +159,7 @@ impl Publication {
             if self.cutter.is_over() {
                 return Ok(self.last(alloc, target)?);
             }
-            read_more(source, &mut self.cutter)?;
+            read_more(source, &mut piece, &mut self.cutter)?;
         }
         Err(PushFault::Endless)
     }
@@ -263,15 +264,18 @@ fn take_unit(cutter: &mut Cutter) -> Result<bool, PushFault>
     Ok(cutter.advance()?)
 }
 
-/// Reads once, and passes `cutter` the bytes that came, or the end.
-fn read_more<R: Reader>(source: &mut R, cutter: &mut Cutter) -> Result<(), PushFault>
+/// Reads once, with the room of `piece`, and passes `cutter` the bytes that came, or the end.
+fn read_more<R: Reader>(
+    source: &mut R,
+    piece: &mut [u8; PIECE],
+    cutter: &mut Cutter,
+) -> Result<(), PushFault>
     ensures once { R.reads source.new ≡ R.reads source.old + 1 }
     ensures fed { OnOk result (IsFed cutter.old (R.left source.old) cutter.new (R.left source.new)) }
     ensures faults { IfErr result (λ fault. fault ≢ PushFault.Memory → (fault ≡ PushFault.Read) × (R.failures source.old < R.failures source.new)) }
     ensures steady { OnOk result (R.failures source.new ≡ R.failures source.old) }
 {
-    let mut piece = [0; PIECE];
-    let Ok(count) = source.read(&mut piece) else {
+    let Ok(count) = source.read(piece) else {
         return Err(PushFault::Read);
     };
     if count == 0 {

@@ -6,6 +6,7 @@ use ll_announce::{Names, Said, Standing};
 use ll_command::{Fault, Plan};
 use ll_device::{Connector, CountedReader};
 use ll_push::{Ending, Target, Watch, push};
+use std::alloc::Global;
 use std::io::{self, IsTerminal};
 use std::net::SocketAddrV4;
 use std::sync::ledger::{Blank, Ledger};
@@ -126,6 +127,12 @@ impl<R: Eprint + Clock> Watch for Meter<'_, R> {
     }
 }
 
+/// Makes the C library keep freed memory for later parts: once it has freed a block of this size, it keeps up to twice as much. Before that it
+/// returns the memory of almost every part to the system, which clears it anew for the next one.
+fn keep_freed_memory(alloc: Global) {
+    let _ = Vec::<u8>::with_capacity(alloc, 16_777_216);
+}
+
 /// Publishes what an encoder writes to standard input, at `address`. Each blank has two parts, one for each count.
 pub(crate) fn publish<L: Ledger, M: Ledger>(
     rt: &HostRuntime,
@@ -153,6 +160,7 @@ pub(crate) fn publish<L: Ledger, M: Ledger>(
     };
     // Each further connection takes at least half a second, so as many idle ones in a row as this take about `retry` seconds or more.
     let tries = plan.retry.saturating_mul(2);
+    keep_freed_memory(rt.alloc());
     let done = push(
         rt.alloc(),
         &target,
