@@ -74,6 +74,7 @@ expect usage_of_upgrade_alone /dev/null 2 'llhls: usage' upgrade </dev/null
 expect usage_of_upgrade_of_two_files /dev/null 2 'llhls: usage' upgrade "$first" "$first" </dev/null
 expect read_of_no_record_to_upgrade /dev/null 4 'llhls: Read' upgrade "$room/none" </dev/null
 expect read_of_no_record /dev/null 4 'llhls: Read' check "$room/none" </dev/null
+expect read_of_a_folder_as_a_record /dev/null 4 'llhls: Read' check "$here" </dev/null
 expect read_of_no_base /dev/null 4 'llhls: Read' apply "$room/none" "$recent/delta" </dev/null
 expect read_of_a_folder_as_the_base /dev/null 4 'llhls: Read' apply "$here" "$recent/delta" </dev/null
 expect read_of_no_delta /dev/null 4 'llhls: Read' apply "$recent/base" "$room/none" </dev/null
@@ -87,6 +88,16 @@ expect read_of_no_delta_after_a_bad_base /dev/null 4 'llhls: Read' apply /dev/nu
 printf '%s\n' 'chain 1' 'entries 65537' 'items 0' 'first reading 0' 'last reading 0' 'answered at once 0' 'held and answered 0' 'timed out 0' 'given up 0' \
     'still held 65536' 'most held 65536' 'too far 0' 'not found 0' 'busy 1' >"$room/busy.stdout"
 expect explain_of_a_busy_answer "$room/busy.stdout" 0 '' explain "$room/busy" </dev/null
+
+# A record that is read in many pieces; and the same without the end of its last line, or with another line in the middle.
+echo 'ok 65537' >"$room/busy.checked"
+expect check_of_many_pieces "$room/busy.checked" 0 '' check "$room/busy" </dev/null
+truncate -s -1 "$room/busy"
+echo 'bad 65538 BadChunk' >"$room/busy.checked"
+expect check_of_a_last_line_that_is_cut "$room/busy.checked" 3 '' check "$room/busy" </dev/null
+sed '40003s/.*/C 1/' "$room/busy" >"$room/busy.changed"
+echo 'bad 40001 Refused' >"$room/busy.checked"
+expect check_of_a_line_in_the_middle "$room/busy.checked" 3 '' check "$room/busy.changed" </dev/null
 
 # expect_full NAME STATUS FAULT WORD..: runs the program with a full device as its standard output, and tests its status and its fault.
 expect_full() {

@@ -139,3 +139,10 @@ pub wants-none : (P : CheckFault → Type 0) (first kept : Option ChainValue) (b
 wants-none P first kept bytes r e read count =
     let got = read (Between None) (first-at first e) in
     subst (λ r. IfErr r (λ f. f.kind ≡ Memory → P f)) (sym (count (Between got.0) got.1)) (counts P got.0)
+
+-- the same of the number of entries
+pub counted-later : (P : CheckFault → Type 0) (x : Result (Option Chain) CheckFault) (r : Result ℕ CheckFault) → counted x ≡ r
+    → IfErr r (λ f. P f → not_before f.entry x ≡ true)
+counted-later P (Ok before) (Ok n) e = tt
+counted-later P (Ok before) (Err f) e = λ kind. refl
+counted-later P (Err f) r e = subst (λ r. IfErr r (λ g. P g → not_before g.entry (Err f) ≡ true)) e (λ kind. own f.entry)

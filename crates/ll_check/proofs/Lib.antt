@@ -7,6 +7,8 @@ pub mod LineLemmas
 pub mod Places
 pub mod ReachedLemmas
 pub mod ReplyLemmas
+pub mod SourceLemmas
 pub mod StepLemmas
+pub mod UnreadLemmas
 pub mod Walk
 pub mod Whole

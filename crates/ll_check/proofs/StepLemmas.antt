@@ -1,17 +1,18 @@
 -- The result of lines, by what the first of them say.
-use Rattle.std.proofs.Common.{◌≡◌, ℕ, List, ◌∷◌, Bool, true, false, cond, Option, Some, None, Result, Ok, Err, refl, ap, ap₂, sym, subst, ◌∙◌, bytes_eq, length, option_map}
+use Rattle.std.proofs.Common.{◌≡◌, ℕ, List, ◌∷◌, ◌++◌, Bool, true, false, cond, Option, Some, None, Result, Ok, Err, refl, ap, ap₂, sym, subst, ◌∙◌, bytes_eq, length, option_map}
 use Rattle.ll_attr.specs.Words.{pieces_at}
 use Rattle.ll_check.proofs.Begun.{begun_parts}
 use Rattle.ll_check.specs.Found.{AreKept, ChainValue, IsAt, IsOf, so_far}
 use Rattle.ll_check.specs.Joined.{IsBegun, IsJoined}
 use Rattle.ll_check.specs.Lines.{IsText}
+use Rattle.ll_check.specs.Passing.{HasPassed}
 use Rattle.ll_check.specs.Steps.{IsBegunBy, IsEntry, IsHeader, IsOver, Moves, Tells, in_full}
 use Rattle.ll_entry_check.specs.Full.{without_item}
 use Rattle.ll_entry_check.specs.declared.full.FullEntry.{FullEntry}
 use Rattle.ll_check.specs.declared.told.Told.{Told}
 use Rattle.ll_check.specs.declared.told.Told.TheVariants as told
 use Rattle.ll_entry.proofs.ChainLemmas.{ended-parts, header-is}
-use Rattle.ll_entry.specs.Chain.{Between, Chain, Inside, Position, begun_by, checked_from, entry_at, go_on, joined, with_line, wrong}
+use Rattle.ll_entry.specs.Chain.{Between, Chain, Inside, Position, begun, begun_by, checked_from, entry_at, go_on, joined, text_in, with_line, wrong}
 use Rattle.ll_entry.specs.Entries.{entry_in}
 use Rattle.ll_entry.specs.Frame.{last_line}
 use Rattle.ll_entry.specs.declared.fault.CheckFault.{CheckFault}
@@ -67,6 +68,16 @@ begun-parts before (Some k) v s at settings lines rest (Ok ch) e h b =
 begun-parts before (Some k) v s at settings lines rest (Err kind) e h b = absurd b
 begun-parts before None v s at settings lines rest r e h b = absurd b
 
+-- three lines, of which the second is the settings line
+pub header-lines : (before : Option Chain) (first settings at line : List ℕ) (rest : List (List ℕ)) (r : Result Chain CheckKind) → line ≡ settings
+    → begun before (text_in first) (text_in settings) (text_in at) ≡ r → IsHeader before r line (first ∷ settings ∷ at ∷ rest) rest
+header-lines before first settings at line rest r same is = record {
+  first = first;
+  place = at;
+  are = ap (λ l. first ∷ l ∷ at ∷ rest) (sym same);
+  begun = ap (λ l. begun before (text_in first) (text_in l) (text_in at)) same ∙ is;
+}
+
 pub header-wrong : (before : Option Chain) (settings : List ℕ) (lines : List (List ℕ)) (rest : List ℕ) (r : Result Chain CheckKind) (kind : CheckKind)
     → IsHeader before r settings lines (pieces_at 10 rest) → r ≡ Err kind → checked_from (Between before) lines ≡ wrong before kind
 header-wrong before settings lines rest r kind h e =
@@ -102,6 +113,16 @@ pub entry-wrong : (ch : Chain) (text : List ℕ) (lines : List (List ℕ)) (rest
 entry-wrong ch text lines rest kind is fails =
     line-is ch lines text rest false (Err kind) is.are is.other (ap (λ o. joined ch (entry_at ch.version ch.settings o)) is.read ∙ fails)
 
+-- ---- the same lines
+
+pub moves-in : (kept : Option ChainValue) (p : Position) (t : Told) (lines same rest : List (List ℕ)) → lines ≡ same → Moves kept p t same rest
+    → Moves kept p t lines rest
+moves-in kept p t lines same rest e m = subst (λ l. Moves kept p t l rest) (sym e) m
+
+pub result-in : (p : Position) (lines same : List (List ℕ)) (r : Result (Option Chain) CheckFault) → lines ≡ same → checked_from p same ≡ r
+    → checked_from p lines ≡ r
+result-in p lines same r e is = ap (checked_from p) e ∙ is
+
 -- ---- one after another
 
 -- lines have the result that the rest of them has from the position after the first
@@ -126,3 +147,12 @@ over-at kept new q rest at o = (
   subst (λ k. IsAt k (Between (so_far q))) (sym o.same) (subst (IsAt kept) o.between at),
   ap₂ (λ q r. checked_from q (pieces_at 10 r)) o.between o.none,
 )
+
+-- lines that are passed
+pub goes-past : (kept new : Option ChainValue) (p : Position) (lines : List (List ℕ)) (text rest more : List ℕ) (t : Told)
+    → GoesTo kept p lines (pieces_at 10 (text ++ more)) → HasPassed kept new text rest t → GoesTo new p lines (pieces_at 10 (rest ++ more))
+goes-past kept new p lines text rest more t g h = goes-on kept new p lines (pieces_at 10 (text ++ more)) (rest ++ more) t g (λ q at. h.moves q more at)
+
+-- nothing changes
+pub goes-stay : (kept new : Option ChainValue) (p : Position) (lines rest : List (List ℕ)) → new ≡ kept → GoesTo kept p lines rest → GoesTo new p lines rest
+goes-stay kept new p lines rest same g = subst (λ k. GoesTo k p lines rest) (sym same) g

@@ -4,5 +4,7 @@ pub mod EntryReplies
 pub mod Found
 pub mod Joined
 pub mod Lines
+pub mod Passing
 pub mod Records
 pub mod Steps
+pub mod Unread

@@ -1,10 +1,11 @@
 //! The first three lines of a chunk, which say whose it is and where it continues.
-ghost use Rattle.std.specs.Prelude.{◌≡◌, ◌≢◌, ◌<◌, IfErr, IfOk, IfSome, MatchOption, OnOk, Option, Some, Err, length, true};
+ghost use Rattle.std.specs.Prelude.{◌≡◌, ◌≢◌, ◌++◌, ◌∷◌, ℕ, List, IfErr, IfOk, IfSome, MatchOption, OnOk, Option, Some, Err, true};
 ghost use Rattle.std.specs.Bool.{Decides};
 ghost use Rattle.ll_attr.specs.Words.{pieces_at};
 ghost use Rattle.ll_check.specs.Found.{AreKept, is_inside};
 ghost use Rattle.ll_check.specs.Joined.{IsBegun, met};
-ghost use Rattle.ll_check.specs.Steps.{IsHeader, Moves};
+ghost use Rattle.ll_check.specs.Lines.{IsBehind, IsShort};
+ghost use Rattle.ll_check.specs.Steps.{Moves};
 ghost use Rattle.ll_entry.specs.Chain as spec;
 ghost use Rattle.ll_entry.specs.Chain.{Between, another, begun, begun_by, checked_from, joined_at, wrong};
 ghost use Rattle.ll_entry.specs.Frame as frame;
@@ -12,7 +13,7 @@ ghost use Rattle.ll_item.specs.Same.{same_settings};
 ghost use Rattle.ll_item.specs.Settings.{Configuration, settings_in};
 
 use crate::chain::{Chain, MOST_EARLIER, entries_of, is_channel};
-use crate::lines::{cut_line, text_in};
+use crate::lines::{cut_three, text_in};
 use crate::told::Told;
 use ll_entry::{CheckKind, Version, place_in};
 use ll_item::{Settings, SettingsFault};
@@ -30,41 +31,47 @@ struct Header<'a> {
     at: u64,
 }
 
-/// Reads a chunk's first three lines, if such a chunk can come next, and returns what they say and what follows them.
+/// Checks whether the next three lines can begin a chunk, and returns what they say and what follows them; `None` if fewer lines end.
 pub(crate) fn begin<'a>(
     alloc: Global,
     chain: &mut Option<Chain>,
     text: &'a [u8],
-) -> Result<(Told<'a>, &'a [u8]), CheckKind>
-    requires { 0 < length text.now }
-    ensures right { (before : Option spec.Chain) → AreKept chain.old before
-        → IfOk result (λ r. Moves chain.new (Between before) r.0 (pieces_at 10 text.now) (pieces_at 10 r.1.now)) }
-    ensures wrong { (before : Option spec.Chain) → AreKept chain.old before
-        → IfErr result (λ k. k ≢ CheckKind.Memory → checked_from (Between before) (pieces_at 10 text.now) ≡ wrong before k) }
-    ensures shorter { IfOk result (λ r. length r.1.now < length text.now) }
+) -> Result<Option<(Told<'a>, &'a [u8])>, CheckKind>
+    ensures right { (before : Option spec.Chain) (more : List ℕ) → AreKept chain.old before
+        → IfOk result (λ r. MatchOption r (IsShort chain.old chain.new (Between before) text.now)
+        (λ s. Moves chain.new (Between before) s.0 (pieces_at 10 (text.now ++ more)) (pieces_at 10 (s.1.now ++ more)))) }
+    ensures wrong { (before : Option spec.Chain) (more : List ℕ) → AreKept chain.old before
+        → IfErr result (λ k. k ≢ CheckKind.Memory → checked_from (Between before) (pieces_at 10 (text.now ++ more)) ≡ wrong before k) }
+    ensures behind { IfOk result (λ r. IfSome r (λ s. IsBehind s.1.now text.now)) }
 {
-    let Some((header, rest)) = header_of(text) else {
-        return Err(CheckKind::BadChunk);
+    let Some(lines) = cut_three(text) else {
+        return Ok(None);
     };
-    match join(alloc, chain, header) {
-        Ok(()) => Ok((Told::Begun(header.settings, header.at), rest)),
+    match begin_by(alloc, chain, lines.first, lines.settings, lines.at) {
+        Ok(told) => Ok(Some((told, lines.rest))),
         Err(kind) => Err(kind),
     }
 }
 
-/// Parses the first three lines of a chunk, and returns what follows them; `None` if they haven't their form.
-fn header_of(text: &[u8]) -> Option<(Header<'_>, &[u8])>
-    requires { 0 < length text.now }
-    ensures header { (before : Option spec.Chain) → MatchOption result (checked_from (Between before) (pieces_at 10 text.now) ≡ wrong before CheckKind.BadChunk)
-        (λ h. IsHeader before (begun_by before (Some h.0.version) (settings_in h.0.settings.now) (Some h.0.at)) h.0.settings.now (pieces_at 10 text.now) (pieces_at 10 h.1.now)) }
-    ensures shorter { IfSome result (λ h. length h.1.now < length text.now) }
+/// Begins a chunk with the lines `first`, `settings` and `at`, if it can come next, and returns what they say.
+fn begin_by<'a>(
+    alloc: Global,
+    chain: &mut Option<Chain>,
+    first: &'a [u8],
+    settings: &'a [u8],
+    at: &'a [u8],
+) -> Result<Told<'a>, CheckKind>
+    ensures right { (before : Option spec.Chain) (rest : List (List ℕ)) → AreKept chain.old before
+        → IfOk result (λ t. Moves chain.new (Between before) t (first.now ∷ settings.now ∷ at.now ∷ rest) rest) }
+    ensures wrong { (before : Option spec.Chain) (rest : List ℕ) → AreKept chain.old before
+        → IfErr result (λ k. k ≢ CheckKind.Memory → checked_from (Between before) (first.now ∷ settings.now ∷ at.now ∷ pieces_at 10 rest) ≡ wrong before k) }
 {
-    let (first, rest) = cut_line(text)?;
-    let (settings, rest) = cut_line(rest)?;
-    let (at, rest) = cut_line(rest)?;
-    match told(first, settings, at) {
-        Some(header) => Some((header, rest)),
-        None => None,
+    let Some(header) = told(first, settings, at) else {
+        return Err(CheckKind::BadChunk);
+    };
+    match join(alloc, chain, header) {
+        Ok(()) => Ok(Told::Begun(header.settings, header.at)),
+        Err(kind) => Err(kind),
     }
 }
 

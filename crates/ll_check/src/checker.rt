@@ -1,10 +1,10 @@
 //! The check of a record: the chains of a channel, one after another.
-ghost use Rattle.std.specs.Prelude.{◌≡◌, ◌≢◌, ◌+◌, ◌<◌, ◌≤◌, ◌^◌, IfErr, IfOk, IfSome, MatchOption, OnOk, Option, None, Ok, Err, false, length, true};
+ghost use Rattle.std.specs.Prelude.{◌≡◌, ◌≢◌, ◌+◌, ◌++◌, ◌<◌, ◌≤◌, ◌^◌, IfErr, IfOk, IfSome, MatchOption, OnOk, Option, None, Ok, Err, ℕ, List, length, true};
 ghost use Rattle.ll_attr.specs.Words.{pieces_at};
 ghost use Rattle.ll_entry.specs.Chain as spec;
 ghost use Rattle.ll_entry.specs.Chain.{Between, Position, checked, checked_from, counted, not_before, wrong};
-ghost use Rattle.ll_check.specs.Found as found;
 ghost use Rattle.ll_check.specs.Found.{IsAt, so_far};
+ghost use Rattle.ll_check.specs.Lines.{IsBehind, IsShort, lines_at};
 ghost use Rattle.ll_check.specs.Steps.{IsOver, Moves};
 
 use crate::begin::begin;
@@ -77,6 +77,23 @@ impl Checker {
         self.count()
     }
 
+    /// Returns how many entries a record has that ends with `rest`, in which fewer lines end than come next. After the last line of a chunk,
+    /// nothing is left: else the record is wrong.
+    pub(crate) fn end(&self, rest: &[u8]) -> Result<u64, CheckFault>
+        ensures value { (p : Position) → IsAt self.now p → length (pieces_at 10 rest.now) ≤ lines_at p
+            → result ≡ counted (checked_from p (pieces_at 10 rest.now)) }
+        ensures over { (p : Position) → IsAt self.now p → OnOk result (IsOver self.now self.now p rest.now) }
+        ensures place { (p : Position) → IsAt self.now p → IfErr result (λ f. f.entry ≡ spec.entries (so_far p) + 1) }
+    {
+        if rest.is_empty() && !is_inside(&self.chain) {
+            return self.count();
+        }
+        Err(CheckFault {
+            entry: self.entries() + 1,
+            kind: CheckKind::BadChunk,
+        })
+    }
+
     /// Returns how many entries the chunks have so far. A record has one chunk or more: before the first, it is wrong.
     pub fn count(&self) -> Result<u64, CheckFault>
         ensures { (p : Position) → IsAt self.now p → result ≡ counted (Ok (so_far p)) }
@@ -98,8 +115,8 @@ impl Checker {
         entries_of(&self.chain)
     }
 
-    /// Checks the next lines, the first three of a chunk or, inside a chunk, one line, and returns what they say and what follows them.
-    /// Returns `None` if no text is left between chunks: then nothing changes.
+    /// Checks the next lines of a record of which only `text` is left: the first three of a chunk or, inside a chunk, one line. Returns what
+    /// they say and what follows them, or `None` if no text is left between chunks: then nothing changes.
     pub fn next<'a>(&mut self, text: &'a [u8]) -> Result<Option<(Told<'a>, &'a [u8])>, CheckFault>
         ensures right { (p : Position) → IsAt self.old p → IfOk result (λ r. MatchOption r (IsOver self.old self.new p text.now)
             (λ s. Moves self.new p s.0 (pieces_at 10 text.now) (pieces_at 10 s.1.now))) }
@@ -113,24 +130,49 @@ impl Checker {
             return Ok(None);
         }
         let entry = self.entries() + 1;
+        match self.step(text)? {
+            Some(step) => Ok(Some(step)),
+            None => Err(CheckFault {
+                entry,
+                kind: CheckKind::BadChunk,
+            }),
+        }
+    }
+
+    /// Checks the next lines that end in `text`, and returns what they say and what follows them; `None` if fewer lines end than come next:
+    /// then nothing changes. What comes after `text` makes no difference.
+    pub(crate) fn step<'a>(
+        &mut self,
+        text: &'a [u8],
+    ) -> Result<Option<(Told<'a>, &'a [u8])>, CheckFault>
+        ensures right { (p : Position) (more : List ℕ) → IsAt self.old p → IfOk result (λ r. MatchOption r (IsShort self.old self.new p text.now)
+            (λ s. Moves self.new p s.0 (pieces_at 10 (text.now ++ more)) (pieces_at 10 (s.1.now ++ more)))) }
+        ensures wrong { (p : Position) (more : List ℕ) → IsAt self.old p
+            → IfErr result (λ f. f.kind ≢ CheckKind.Memory → checked_from p (pieces_at 10 (text.now ++ more)) ≡ Err f) }
+        ensures memory { (p : Position) (more : List ℕ) → IsAt self.old p
+            → IfErr result (λ f. not_before f.entry (checked_from p (pieces_at 10 (text.now ++ more))) ≡ true) }
+        ensures place { (p : Position) → IsAt self.old p → IfErr result (λ f. f.entry ≡ spec.entries (so_far p) + 1) }
+        ensures behind { IfOk result (λ r. IfSome r (λ s. IsBehind s.1.now text.now)) }
+    {
+        let entry = self.entries() + 1;
         match go_over(self.alloc, &mut self.chain, text) {
-            Ok(step) => Ok(Some(step)),
+            Ok(step) => Ok(step),
             Err(kind) => Err(CheckFault { entry, kind }),
         }
     }
 }
 
-/// Checks the next lines: the first three of a chunk or, inside a chunk, one line.
+/// Checks the next lines: the first three of a chunk or, inside a chunk, one line. Returns `None` if fewer lines end.
 fn go_over<'a>(
     alloc: Global,
     chain: &mut Option<Chain>,
     text: &'a [u8],
-) -> Result<(Told<'a>, &'a [u8]), CheckKind>
-    requires { found.is_inside chain.old ≡ false → 0 < length text.now }
-    ensures right { (p : Position) → IsAt chain.old p → IfOk result (λ r. Moves chain.new p r.0 (pieces_at 10 text.now) (pieces_at 10 r.1.now)) }
-    ensures wrong { (p : Position) → IsAt chain.old p
-        → IfErr result (λ k. k ≢ CheckKind.Memory → checked_from p (pieces_at 10 text.now) ≡ wrong (so_far p) k) }
-    ensures shorter { IfOk result (λ r. length r.1.now < length text.now) }
+) -> Result<Option<(Told<'a>, &'a [u8])>, CheckKind>
+    ensures right { (p : Position) (more : List ℕ) → IsAt chain.old p → IfOk result (λ r. MatchOption r (IsShort chain.old chain.new p text.now)
+        (λ s. Moves chain.new p s.0 (pieces_at 10 (text.now ++ more)) (pieces_at 10 (s.1.now ++ more)))) }
+    ensures wrong { (p : Position) (more : List ℕ) → IsAt chain.old p
+        → IfErr result (λ k. k ≢ CheckKind.Memory → checked_from p (pieces_at 10 (text.now ++ more)) ≡ wrong (so_far p) k) }
+    ensures behind { IfOk result (λ r. IfSome r (λ s. IsBehind s.1.now text.now)) }
 {
     if !is_inside(chain) {
         return begin(alloc, chain, text);

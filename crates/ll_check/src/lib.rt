@@ -9,10 +9,14 @@ mod chunk;
 mod laws;
 mod lines;
 mod replies;
+mod source;
 mod told;
+mod unread;
 
 pub use answer::answer_line;
 pub use checker::{Checker, check};
 pub use laws::record_law;
 pub use replies::EntryReply;
+pub use source::{RecordFault, check_source};
 pub use told::Told;
+pub use unread::{ReadFault, Unread};

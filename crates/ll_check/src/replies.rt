@@ -9,7 +9,7 @@ ghost use Rattle.ll_entry.specs.Entries.{entry_in};
 
 use crate::chain::{Chain, is_inside};
 use crate::checker::Checker;
-use crate::lines::chunk_line;
+use crate::lines::next_line;
 use ll_entry::{CheckFault, CheckKind, Recorded};
 use ll_entry_check::bring;
 use ll_verdict::Reply;
@@ -75,7 +75,7 @@ fn reply_of<'a>(
     ensures wrong { (ch : spec.Chain) → IsOf chain.old ch
         → IfErr result (λ k. k ≢ CheckKind.Memory → checked_from (Inside ch) (pieces_at 10 text.now) ≡ wrong (Some ch) k) }
 {
-    let (line, _rest) = chunk_line(text)?;
+    let (line, _rest) = next_line(text)?;
     let Some(line) = line else {
         return Ok(None);
     };

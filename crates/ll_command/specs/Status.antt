@@ -1,13 +1,21 @@
--- The exit statuses of a program that didn't do what it was called to do.
+-- Why a program didn't do what it was called to do, and its exit statuses.
 use Rattle.std.specs.Prelude.{ℕ}
 use Rattle.ll_apply.specs.declared.fault.ApplyFault.{ApplyFault}
 use Rattle.ll_apply.specs.declared.fault.ApplyFault.TheVariants as apply
+use Rattle.ll_check.specs.declared.unread.ReadFault.{ReadFault}
+use Rattle.ll_check.specs.declared.unread.ReadFault.TheVariants as unread
 use Rattle.ll_push.specs.declared.fault.PushFault.{PushFault}
 use Rattle.ll_push.specs.declared.fault.PushFault.TheVariants as push
 use Rattle.ll_replay.specs.declared.outcome.RunFault.{RunFault}
 use Rattle.ll_replay.specs.declared.outcome.RunFault.TheVariants as run
 use Rattle.ll_command.specs.declared.fault.Fault.{Fault}
-use Rattle.ll_command.specs.declared.fault.Fault.TheVariants.{Usage, Read, Write, Memory, Replay, BadLine, NoEntry, Listen, Clock, Apply, Push}
+use Rattle.ll_command.specs.declared.fault.Fault.TheVariants.{Usage, Read, Endless, Write, Memory, Replay, BadLine, NoEntry, Listen, Clock, Apply, Push}
+
+-- the fault of a record that wasn't read to its end
+abbrev pub read_fault : ReadFault → Fault
+read_fault unread.Read = Read
+read_fault unread.Endless = Endless
+read_fault unread.Memory = Memory
 
 -- the status of a script's fault
 abbrev pub replay_status : RunFault → ℕ
@@ -39,6 +47,7 @@ push_status push.Endless = 4
 abbrev pub status_of : Fault → ℕ
 status_of Usage = 2
 status_of Read = 4
+status_of Endless = 4
 status_of Write = 4
 status_of Memory = 4
 status_of (BadLine line) = 3

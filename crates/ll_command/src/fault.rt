@@ -4,6 +4,7 @@ ghost use Rattle.ll_command.specs.Status.{status_of};
 ghost use Rattle.ll_command.specs.Status as spec;
 
 use ll_apply::ApplyFault;
+use ll_check::ReadFault;
 use ll_push::PushFault;
 use ll_replay::RunFault;
 use std::io::ErrorKind;
@@ -18,6 +19,9 @@ pub enum Fault {
     /// A file couldn't be read.
     #[error("Read")]
     Read,
+    /// A record didn't end within 2^32 reads.
+    #[error("Endless")]
+    Endless,
     /// Standard output took no more.
     #[error("Write")]
     Write,
@@ -55,11 +59,27 @@ impl Fault {
         match self {
             Fault::Usage => 2,
             Fault::BadLine(_) | Fault::NoEntry => 3,
-            Fault::Read | Fault::Write | Fault::Memory | Fault::Listen | Fault::Clock => 4,
+            Fault::Read
+            | Fault::Endless
+            | Fault::Write
+            | Fault::Memory
+            | Fault::Listen
+            | Fault::Clock => 4,
             Fault::Replay(fault) => replay_status(fault),
             Fault::Apply(fault) => apply_status(fault),
             Fault::Push(fault) => push_status(fault),
         }
+    }
+}
+
+/// Returns the fault of a record that wasn't read to its end.
+pub(crate) fn read_fault(fault: ReadFault) -> Fault
+    ensures { result ≡ spec.read_fault fault }
+{
+    match fault {
+        ReadFault::Read => Fault::Read,
+        ReadFault::Endless => Fault::Endless,
+        ReadFault::Memory => Fault::Memory,
     }
 }
 

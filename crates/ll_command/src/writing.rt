@@ -1,5 +1,5 @@
 //! Writes to standard output what the program's commands result in.
-ghost use Rattle.std.specs.Prelude.{◌≡◌, ◌≢◌, List, ℕ, Ok, Err, IfErr, IfOk, IsErrOf, IsOk, OnOk, is_ok};
+ghost use Rattle.std.specs.Prelude.{◌≡◌, ◌≢◌, ◌+◌, ◌<◌, ◌^◌, List, ℕ, Ok, Err, Some, IfErr, IfOk, IsErrOf, IsOk, OnOk, is_ok};
 ghost use Rattle.std.specs.Io.KnownBytes.{Appends};
 ghost use Rattle.ll_apply.specs.Texts.{applied_text};
 ghost use Rattle.ll_apply.specs.declared.fault.ApplyFault.{ApplyFault};
@@ -10,9 +10,10 @@ ghost use Rattle.ll_explain.specs.Explained.{HasNoEntry};
 ghost use Rattle.ll_explain.specs.Upgrade.{upgraded};
 ghost use Rattle.ll_explain.specs.Words.{IsExplanation};
 
-use crate::fault::Fault;
+use crate::fault::{Fault, read_fault};
 use ll_apply::apply;
-use ll_check::{answer_line, check};
+use ll_check::{RecordFault, answer_line, check_source};
+use ll_device::Reader;
 use ll_entry::{CheckFault, CheckKind};
 use ll_explain::{ExplainFault, explain, summarize, summary_text, upgrade};
 use std::alloc::{AllocError, Global};
@@ -36,12 +37,24 @@ pub fn write_applied<W: Write>(
     }
 }
 
-/// Checks a record, writes its number of entries or how it isn't right, and returns whether it is right.
-pub fn write_checked<W: Write>(alloc: Global, chunks: &[u8], out: &mut W) -> Result<bool, Fault>
-    ensures written { IfOk result (λ right. (right ≡ is_ok (checked chunks.now)) × Appends (W.contents out.old) (W.contents out.new) (spec.answer_line (checked chunks.now))) }
-    ensures kinds { IfErr result (λ f. f ≢ Fault.Write → f ≡ Fault.Memory) }
+/// Checks the record that is left in `source`, writes its number of entries or how it isn't right, and returns whether it is right. The
+/// record is read in pieces: the memory doesn't grow with it.
+pub fn write_checked<R: Reader, W: Write>(
+    alloc: Global,
+    source: &mut R,
+    out: &mut W,
+) -> Result<bool, Fault>
+    ensures written { (input : List ℕ) → R.left source.old ≡ Some input → IfOk result (λ right. (right ≡ is_ok (checked input))
+        × Appends (W.contents out.old) (W.contents out.new) (spec.answer_line (checked input))) }
+    ensures read { IsErrOf result Fault.Read → R.failures source.old < R.failures source.new }
+    ensures endless { IsErrOf result Fault.Endless → R.reads source.new ≡ R.reads source.old + 2 ^ 32 }
+    ensures kinds { IfErr result (λ f. f ≢ Fault.Write → f ≢ Fault.Read → f ≢ Fault.Endless → f ≡ Fault.Memory) }
 {
-    write_answer(alloc, check(alloc, chunks), out)
+    match check_source(alloc, source) {
+        Ok(entries) => write_answer(alloc, Ok(entries), out),
+        Err(RecordFault::Wrong(fault)) => write_answer(alloc, Err(fault), out),
+        Err(RecordFault::Unread(fault)) => Err(read_fault(fault)),
+    }
 }
 
 /// Writes a record in format 2, or how it isn't right, and returns whether it is right.

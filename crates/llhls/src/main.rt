@@ -23,6 +23,7 @@ use ll_command::{
 };
 use ll_device::{CountedReader, CountedWriter};
 use ll_push::Ending as Published;
+use std::fs::File;
 use std::marker::Brand;
 use std::net::SocketAddrV4;
 use std::process::ExitCode;
@@ -78,7 +79,7 @@ fn called(rt: &HostRuntime) -> Result<Ending, Fault> {
             Ok(Ending::Done)
         }
         Command::Apply { base, delta } => apply(rt, base.as_str(), delta.as_str()),
-        Command::Check(record) => check(rt, record.as_str()),
+        Command::Check(record) => check::<Brand>(rt, record.as_str(), Blank::new(2)),
         Command::Upgrade(record) => upgrade(rt, record.as_str()),
         Command::Summarize(record) => summarize(rt, record.as_str()),
         Command::Explain { record, entry } => explain(rt, record.as_str(), entry),
@@ -106,10 +107,18 @@ fn apply(rt: &HostRuntime, base: &str, delta: &str) -> Result<Ending, Fault> {
     Ok(Ending::Done)
 }
 
-/// Writes how many entries the record in a file has, or how it isn't right.
-fn check(rt: &HostRuntime, path: &str) -> Result<Ending, Fault> {
-    let record = read_file(rt, path)?;
-    let right = write_checked(rt.alloc(), &record, &mut rt.stdout())?;
+/// Writes how many entries the record in a file has, or how it isn't right. It reads the file in pieces.
+fn check<L: Ledger>(rt: &HostRuntime, path: &str, reads: Blank) -> Result<Ending, Fault>
+    requires name { reads.name ≡ L.name }
+    requires parts { reads.parts ≡ L.parts }
+    requires two { reads.parts ≡ 2 }
+{
+    let file = match File::open(rt, path) {
+        Ok(file) => file,
+        Err(error) => return Err(fault_of(error.kind(), Fault::Read)),
+    };
+    let mut record: CountedReader<File, L> = CountedReader::new(file, reads);
+    let right = write_checked(rt.alloc(), &mut record, &mut rt.stdout())?;
     Ok(ending_of(right))
 }
 
