@@ -8,9 +8,15 @@ program=$(LLHLS=${PROGRAM-${LLHLS-}} "$(dirname "${BASH_SOURCE[0]}")/../tests/pr
 cd "$(dirname "${BASH_SOURCE[0]}")/.."
 umask 022
 export LC_ALL=C TZ=UTC
-export SOURCE_DATE_EPOCH=${SOURCE_DATE_EPOCH-$(git log -1 --format=%ct)}
+
+# last FORMAT OTHER: prints the last commit in this format, or OTHER if there is no repository.
+last() {
+    git log -1 --format="$1" 2>/dev/null || echo "$2"
+}
+
+export SOURCE_DATE_EPOCH=${SOURCE_DATE_EPOCH-$(last %ct "$(stat -c %Y VERSION)")}
 version=$(<VERSION)
-maintainer=${MAINTAINER-$(git log -1 --format='%an <%ae>')}
+maintainer=${MAINTAINER-$(last '%an <%ae>' 'nobody <nobody@localhost>')}
 room=$(mktemp -d)
 trap 'rm -rf "$room"' EXIT
 tree=$room/tree
@@ -40,7 +46,7 @@ depends() {
 }
 
 changelog() {
-    printf 'llhls (%s) unstable; urgency=medium\n\n  * Built from commit %s.\n\n -- %s  %s\n' "$version" "$(git rev-parse --short=12 HEAD)" "$maintainer" "$(date -R -d "@$SOURCE_DATE_EPOCH")"
+    printf 'llhls (%s) unstable; urgency=medium\n\n  * Built from commit %s.\n\n -- %s  %s\n' "$version" "$(last %H unknown)" "$maintainer" "$(date -R -d "@$SOURCE_DATE_EPOCH")"
 }
 
 put 755 usr/bin "$program"
@@ -51,7 +57,9 @@ put 644 usr/share/lintian/overrides packaging/lintian/llhls
 # (the folders are those of the repository, so that the pages' links work)
 put 644 usr/share/doc/llhls README.md packaging/copyright
 put 644 usr/share/doc/llhls/docs docs/*.md
-put 644 usr/share/doc/llhls/examples packaging/cam.conf examples/media.settings examples/serve.settings examples/watch.html examples/README.md
+put 644 usr/share/doc/llhls/examples packaging/cam.conf examples/*.*
+chmod 755 "$doc/examples/publish.py"
+rm "$doc/examples/demo.sh"
 put 644 usr/share/doc/llhls/examples/edge examples/edge/*
 changelog | pack usr/share/doc/llhls/changelog.gz
 install -d "$tree/etc/llhls"
