@@ -26,7 +26,8 @@ install: kit
 	@program=$$($(HERE)tests/program.sh) && mkdir -p "$(DESTDIR)$(PREFIX)/bin" && install -m 755 "$$program" "$(DESTDIR)$(PREFIX)/bin/llhls"
 	@install -D -m 644 "$(HERE)docs/llhls.1" "$(DESTDIR)$(PREFIX)/share/man/man1/llhls.1"
 
-deb:
+# (a program that is there needs no kit)
+deb: $(if $(PROGRAM)$(LLHLS),,kit)
 	@$(HERE)packaging/deb.sh
 
 test: kit

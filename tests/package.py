@@ -156,7 +156,8 @@ def served_in(room, tree):
 
 
 def is_installed_and_purged(room):
-    """apt installs the package in a clean Debian; a server starts and serves; after it is removed and purged, the operator's settings alone are left."""
+    """apt installs the package in a clean Debian; a server starts and serves, also after the package is installed again over it; after it is removed and purged, the operator's settings
+    alone are left."""
     tree, suite = room.folder / 'root', re.search('VERSION_CODENAME=(.*)', pathlib.Path('/etc/os-release').read_text())[1]
     run = ended(room.start(['mmdebstrap', '--variant=minbase', suite, tree, 'deb http://deb.debian.org/debian ' + suite + ' main']), seconds=600)
     check(run.status == 0, f'mmdebstrap ends with status {run.status}')
@@ -166,6 +167,8 @@ def is_installed_and_purged(room):
     room.out('chroot', tree, 'apt-get', 'install', '-y', f'/tmp/{NAME}')
     served_in(room, tree)
     print(f'from apt-get install to a playlist: {time.monotonic() - start:.1f} s')
+    room.out('chroot', tree, 'apt-get', 'install', '-y', '--reinstall', f'/tmp/{NAME}')
+    room.is_served()
     room.stop_server(15)
     check((tree / 'usr/share/man/man1/llhls.1.gz').exists(), 'the manual page is not installed')
     shutil.rmtree(tree / 'var/lib/llhls/cam')
