@@ -2,12 +2,13 @@
 HERE := $(dir $(lastword $(MAKEFILE_LIST)))
 PREFIX ?= /usr/local
 
-.PHONY: help run build install test edits try refused-memory bench demo
+.PHONY: help run build install deb test edits try refused-memory bench demo
 
 help:
 	@echo 'make run              runs the program on examples/first.script, and as a server, in a minute or two and before anything is proved'
 	@echo 'make build            proves and builds the program'
 	@echo 'make install          does that and copies it to PREFIX/bin, and its manual page to PREFIX/share/man (PREFIX=$(PREFIX))'
+	@echo 'make deb              proves and builds the program, and makes a Debian package of it in packaging/out (PROGRAM=PATH packages another)'
 	@echo 'make test             proves and tests everything from nothing'
 	@echo 'make edits            tries all deliberate bugs that the prover must refuse (CRATES="NAME .." those of some crates)'
 	@echo 'make try              runs each row of input and output on the program before it is proved, with checks'
@@ -24,6 +25,10 @@ build: kit
 install: kit
 	@program=$$($(HERE)tests/program.sh) && mkdir -p "$(DESTDIR)$(PREFIX)/bin" && install -m 755 "$$program" "$(DESTDIR)$(PREFIX)/bin/llhls"
 	@install -D -m 644 "$(HERE)docs/llhls.1" "$(DESTDIR)$(PREFIX)/share/man/man1/llhls.1"
+
+# (a program that is there needs no kit)
+deb: $(if $(PROGRAM)$(LLHLS),,kit)
+	@$(HERE)packaging/deb.sh
 
 test: kit
 	@$(HERE)tests/all.sh

@@ -4,8 +4,9 @@
 # runs all of them so). Once the program is proved, each row runs on it, as each compiler of the toolchain builds it. Beside these, the proved program
 # is tested with devices that give and take a few bytes at a time, large inputs, mutated playlists, mutated records, records in format 2, entries that
 # are explained, the bytes of connections cut in every way, connections that end too early, mutated heads, and calls whose memory is refused; and with
-# the server's log, what is published to it, and its records, which mostly wait. Then come, one at a time, the server with real sockets, what stands
-# in front of it, a player that watches it, and a page in a browser. The last line is the sum, `N passed, M failed`.
+# the server's log, what is published to it, and its records, which mostly wait; and its Debian package (SLOW=1: installed in a clean Debian too). Then
+# come, one at a time, the server with real sockets, what stands in front of it, a player that watches it, and a page in a browser. The last line is
+# the sum, `N passed, M failed`.
 . "$(dirname "${BASH_SOURCE[0]}")/common.sh" || exit 2
 cd "$root" || exit 2
 . tests/copy.sh
@@ -73,6 +74,7 @@ done
 begin tests/killed.py "$program" 20
 waiting=$((waiting + 1))
 start tests/explained.py "$program"
+start tests/package.py "$program"
 for name in mutated_playlists mutated_records upgrades connections dropped mutated_heads short_devices large rows; do
     start "tests/$name.sh" "$program"
 done

@@ -65,8 +65,8 @@ class EdgeRoom(ServeRoom):
             self.comes(lambda: socket.create_connection(('127.0.0.1', port)).close(), seconds=20)
         return PartPublisher(self)
 
-    def start_nginx(self, varnish):
-        """Starts nginx in front of Varnish's port."""
+    def start_nginx(self, varnish, *changes):
+        """Starts nginx in front of Varnish's port, with these further changes of its settings, each an old text and a new one."""
         (self.folder / 'live/cam').mkdir(parents=True)
         shutil.copy(EDGE / 'main.m3u8', self.folder / 'live/cam')
         subprocess.run(['openssl', *'req -x509 -newkey rsa:2048 -nodes -days 2 -subj /CN=localhost -keyout live.key -out live.pem'.split()], cwd=self.folder, check=True, capture_output=True)
@@ -75,7 +75,7 @@ class EdgeRoom(ServeRoom):
         paths = ' '.join(f'{kind}_temp_path {self.folder}/{kind};' for kind in ('client_body', 'proxy', 'fastcgi', 'uwsgi', 'scgi'))
         text = (EDGE / 'nginx.conf').read_text()
         for old, new in (('listen 443 ssl http2;', listens), ('127.0.0.1:6081', f'127.0.0.1:{varnish}'), ('/etc/ssl/', f'{self.folder}/'), ('/srv/live', f'{self.folder}/live'),
-                         ('/run/', f'{self.folder}/'), ('/var/log/nginx/', f'{self.folder}/'), ('http {', f'http {{ {paths}')):
+                         ('/run/', f'{self.folder}/'), ('/var/log/nginx/', f'{self.folder}/'), ('http {', f'http {{ {paths}'), *changes):
             check(old in text, f'nginx.conf has no {old!r}')
             text = text.replace(old, new)
         # Nobody else must be able to reach it.
@@ -281,7 +281,26 @@ def ends(room):
     room.recorded(most_held=1, held_and_answered=1, answered_at_once=1)
 
 
-TESTS = (thousand_players, cached, refused, times_out, fields, ends)
+def processes(room):
+    """Two channels have servers of their own: by channels.conf nginx asks each for its channel, and the first for those that nobody has."""
+    ports = [room.serve(CHANNEL.replace('cam', name), workers=4).port for name in ('cam', 'two')]
+    text = (EDGE / 'channels.conf').read_text()
+    for old, port in zip(('127.0.0.1:8080', '127.0.0.1:8090'), ports):
+        check(old in text, f'channels.conf has no {old}')
+        text = text.replace(old, f'127.0.0.1:{port}')
+    settings = room.folder / 'channels.conf'
+    settings.write_text(text)
+    room.port, room.tls = free_port(), free_port()
+    room.start_nginx(free_port(), ('http {', f'http {{ include {settings};'), ('proxy_pass http://llhls;', 'proxy_pass http://$server;'))
+    room.comes(lambda: socket.create_connection(('127.0.0.1', room.port)).close(), seconds=20)
+    room.publish('two part hi 500000 i', 'ok 1')
+    for name, parts in ('cam', 0), ('two', 1):
+        status, body, _ = room.get(f'/{name}/hi/live.m3u8')
+        check(status == 200 and body.count(b'#EXT-X-PART:') == parts, f'{name} is answered {status}, {body}')
+    check(room.get('/other/hi/live.m3u8')[0] == 404, 'a channel that nobody has is found')
+
+
+TESTS = (thousand_players, cached, refused, times_out, fields, ends, processes)
 
 
 def main(path, *names):
