@@ -58,7 +58,7 @@ put 644 usr/share/lintian/overrides packaging/lintian/llhls
 put 644 usr/share/doc/llhls README.md packaging/copyright
 put 644 usr/share/doc/llhls/docs docs/*.md
 put 644 usr/share/doc/llhls/examples packaging/cam.conf examples/*.*
-chmod 755 "$doc/examples/publish.py"
+chmod 755 "$doc/examples/"{near,publish}.py
 rm "$doc/examples/demo.sh"
 put 644 usr/share/doc/llhls/examples/edge examples/edge/*
 changelog | pack usr/share/doc/llhls/changelog.gz

@@ -24,7 +24,8 @@ STAND_IN = '#include <stdio.h>\nint main(void) { return puts("a stand-in") < 0; 
 # The files outside of the pages and examples.
 FILES = {'usr/bin/llhls': '-rwxr-xr-x', UNIT: '-rw-r--r--', 'usr/share/man/man1/llhls.1.gz': '-rw-r--r--', f'{DOC}/changelog.gz': '-rw-r--r--', f'{DOC}/copyright': '-rw-r--r--',
          'usr/share/lintian/overrides/llhls': '-rw-r--r--', f'{DOC}/README.md': '-rw-r--r--', 'etc/llhls/': 'drwxr-xr-x'}
-EXAMPLES = ('cam.conf', 'media.settings', 'publish.py', 'pattern.mp4', 'edge/nginx.conf', 'edge/channels.conf', 'edge/llhls.vcl', 'edge/main.m3u8')
+RUN_EXAMPLES = ('near.py', 'publish.py')
+EXAMPLES = (*RUN_EXAMPLES, 'cam.conf', 'media.settings', 'watch.html', 'pattern.mp4', 'edge/nginx.conf', 'edge/channels.conf', 'edge/llhls.vcl', 'edge/main.m3u8')
 # What a purge leaves of the settings that the operator made, and what the package's tools write themselves.
 SETTINGS = {'etc/llhls', 'etc/llhls/cam.conf'}
 OWN = re.compile('(var/(lib/(dpkg|apt|systemd)|log|cache)|etc/ld.so.cache|dev|proc|sys|run|tmp|root)(/|$)')
@@ -69,6 +70,8 @@ def has_its_files(room):
     pages = [f'{DOC}/docs/{page.name}' for page in (ROOT / 'docs').glob('*.md')]
     for path in [*pages, *(f'{DOC}/examples/{name}' for name in EXAMPLES)]:
         check(path in found, f'{path} is not there')
+    for name in RUN_EXAMPLES:
+        check(found[f'{DOC}/examples/{name}'][0].endswith('rwxr-xr-x'), f'{name} can not be run')
     for path, (mode, owner) in found.items():
         check(owner == 'root/root' and mode[1:] in ('rwxr-xr-x', 'rw-r--r--'), f'{path} is {mode} of {owner}')
         check(path in FILES or path.endswith('/') or path.startswith(f'{DOC}/'), f'{path} is there')
