@@ -6,7 +6,7 @@ use ll_book::{Book, ParkFault, Release, Released, release_law};
 use ll_directive::Awaited;
 use ll_item::{Item, Payload, Settings, What};
 use ll_page::{Rendition, Shown};
-use ll_page_cache::Pages;
+use ll_page_cache::{Pages, Rendered};
 use ll_range::Ranges;
 use ll_verdict::{Entry, Settled, Wanted};
 use ll_window::Window;
@@ -81,7 +81,9 @@ impl Kept {
         pages: &mut Pages,
     ) -> Result<(usize, Released), AllocError> {
         release_law();
-        let holders = self.book.holders(alloc, which, pages, &None)?;
+        let holders = self
+            .book
+            .holders(alloc, which, pages, Rendered::none(), &None)?;
         let looked = holders.looked();
         let released = match which {
             Release::Part(rendition, msn, part) => {
