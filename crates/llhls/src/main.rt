@@ -79,7 +79,7 @@ fn called(rt: &HostRuntime) -> Result<Ending, Fault> {
             Ok(Ending::Done)
         }
         Command::Apply { base, delta } => apply(rt, base.as_str(), delta.as_str()),
-        Command::Check(record) => check::<Brand>(rt, record.as_str(), Blank::new(2)),
+        Command::Check(record) => check::<Brand>(rt, record, Blank::new(2)),
         Command::Upgrade(record) => upgrade(rt, record.as_str()),
         Command::Summarize(record) => summarize(rt, record.as_str()),
         Command::Explain { record, entry } => explain(rt, record.as_str(), entry),
@@ -108,12 +108,12 @@ fn apply(rt: &HostRuntime, base: &str, delta: &str) -> Result<Ending, Fault> {
 }
 
 /// Writes how many entries the record in a file has, or how it isn't right. It reads the file in pieces.
-fn check<L: Ledger>(rt: &HostRuntime, path: &str, reads: Blank) -> Result<Ending, Fault>
+fn check<L: Ledger>(rt: &HostRuntime, path: &Text, reads: Blank) -> Result<Ending, Fault>
     requires name { reads.name ≡ L.name }
     requires parts { reads.parts ≡ L.parts }
     requires two { reads.parts ≡ 2 }
 {
-    let file = match File::open(rt, path) {
+    let file = match File::open(rt, path.as_str()) {
         Ok(file) => file,
         Err(error) => return Err(fault_of(error.kind(), Fault::Read)),
     };

@@ -7,5 +7,5 @@ ghosts-replay-L-Ledger a = record { name = a.reads.name; parts = a.reads.parts }
 abbrev pub ghosts-replay-M-Ledger : goal.ghosts-replay-M-Ledger
 ghosts-replay-M-Ledger a = record { name = a.writes.name; parts = a.writes.parts }
 
-abbrev pub ghosts-check-L-Ledger : goal.ghosts-check-L-Ledger
-ghosts-check-L-Ledger a = record { name = a.reads.name; parts = a.reads.parts }
+abbrev pub ghosts-check : goal.ghosts-check
+ghosts-check a = record { name = a.reads.name; parts = a.reads.parts }
