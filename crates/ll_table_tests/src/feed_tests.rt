@@ -252,6 +252,7 @@ fn reply(name: &str) -> Result<Success, Refusal> {
     match name {
         "too long a line" => Err(Refusal::LineTooLong),
         "too many bytes" => Err(Refusal::MediaTooLong),
+        "an item that isn't kept" => Ok(Success::NotKept(7)),
         "a bad line" => Err(Refusal::from(ItemFault::BadLine)),
         "too long a part" => Err(Refusal::from(PublishFault::TooLong)),
         _ => Ok(Success::Accepted(name.parse::<u64>().unwrap_or(999))),
