@@ -17,13 +17,15 @@ from push_inputs import beginning, damaged, fault_of, input_of, messages, pieces
 from push_model import Standing
 from push_peer import ALL_OK, address_of, held_port
 from push_room import PushRoom
-from push_rows import BAD_ANSWERS, BAD_PLACES, ELSEWHERE, GOES_ON_AFTER, HANGS_UP, ORIGIN_REFUSES, SERVER_REFUSES, STARTS, WRONG_WORDS
+from push_rows import BAD_ANSWERS, BAD_PLACES, ELSEWHERE, GOES_ON_AFTER, HANGS_UP, KEEPS_NOT_ALL, ORIGIN_REFUSES, SERVER_REFUSES, STARTS, WRONG_WORDS
 from rooms import Wrong, check, ended, try_named
 
 HERE = pathlib.Path(__file__).resolve().parent
 # The rendition's time is ahead of any clock, so that what is published needs no time of its own.
 CAM = 'channel cam target=4 part=1000000 skip=24 window=36 renditions=hi,lo first=0 start=4000000000000'
 SHORT = 'channel cam target=2 part=1000000 skip=12 window=18 renditions=hi,lo first=0 start=4000000000000'
+# What a push says if the origin has accepted something that it keeps nowhere but in memory.
+NOT_KEPT = "llhls: the origin has accepted an item that it can't keep on disk: NotKept"
 
 # ---- what tests look at
 
@@ -161,6 +163,17 @@ def goes_on_after(room, plan, count):
     peer = room.peer(plan)
     passes(room.push(peer.address, input_of('two')), count)
     took(peer, input_of('two'))
+
+
+def goes_on_unkept(room, plan, count):
+    """The origin can't keep some of what it accepts on disk. The program says so once, and goes on."""
+    peer = room.peer(plan)
+    run = room.push(peer.address, input_of('two'))
+    passes(run, count)
+    others = [line for line in run.stderr.splitlines() if 'the connection is lost' not in line]
+    check(others == [NOT_KEPT], f'it says {others}')
+    took(peer, input_of('two'))
+    check(peer.has_ended(), 'the origin still waits')
 
 
 def goes_on_everywhere(room, name, how, number):
@@ -438,6 +451,8 @@ def origins():
         yield hangs_up, plan, count
     for plan, count in GOES_ON_AFTER:
         yield goes_on_after, plan, count
+    for plan, count in KEEPS_NOT_ALL:
+        yield goes_on_unkept, plan, count
     for name, count in (('two', 4), ('gap', 9)):
         for how, number in itertools.product(('lose', 'drop', 'half'), range(count)):
             yield goes_on_everywhere, name, how, number
