@@ -253,17 +253,30 @@ def shown_by(terminal):
         return shown.decode().replace('\r', '')
 
 
-def tells_how_it_goes(room):
-    """If standard error is a terminal, it has a line of what was published so far, at most once a second, and a line for each fault."""
-    peer = room.peer(r'ok,ok,ok,ok,no 4 TooLong\n')
+# What is shown of a push that goes on.
+PROGRESS = r'(llhls: [1-9] parts, [0-9] segments, [0-9]\.[05]00 s, [0-9]+ kB/s, [0-9]+\.[0-9]{3} s behind  )+\n'
+
+
+def shows(room, plan, pattern):
+    """A push to an origin that in the end refuses a message shows lines of this pattern, and then the refusal, if standard error is a terminal."""
+    peer = room.peer(plan)
     ours, its = pty.openpty()
     with open(ours, 'rb', buffering=0) as terminal:
         with open(its, 'wb', buffering=0) as stderr:
             run = room.push(peer.address, slowly(room, 'many'), words=(), stderr=stderr)
         shown = shown_by(terminal)
-    line, _, rest = shown.partition('\n')
-    progress = r'(llhls: [1-9] parts, 0 segments, [01]\.[05]00 s, [0-9]+ kB/s, [0-9]+\.[0-9]{3} s behind  )+'
-    check(re.fullmatch(progress, line) and rest == 'llhls: no 4 TooLong\n' and (run.status, run.stdout) == (3, b''), f'status {run.status}, and it shows {shown}')
+    is_shown = re.fullmatch(pattern + 'llhls: no 4 TooLong\n', shown)
+    check(is_shown and (run.status, run.stdout) == (3, b''), f'status {run.status}, and it shows {shown}')
+
+
+def tells_how_it_goes(room):
+    """A terminal has a line of what was published so far, at most once a second, and a line for each fault."""
+    shows(room, r'ok,ok,ok,ok,no 4 TooLong\n', PROGRESS)
+
+
+def tells_what_is_not_kept(room):
+    """A terminal has a line of its own for the first item that isn't kept."""
+    shows(room, r'ok,ok,ok,ok,unkept,unkept,no 4 TooLong\n', f'{PROGRESS}{re.escape(NOT_KEPT)}\n({PROGRESS})?')
 
 
 # ---- a push that is stopped, and one that comes after another one
@@ -423,7 +436,7 @@ def both_are_served(room):
 
 # ---- all tests
 
-ONCE = (no_server, server_goes_away, gives_up_at_once, gives_up_where_nothing_goes, reads_fail, tells_how_it_goes, all_damaged,
+ONCE = (no_server, server_goes_away, gives_up_at_once, gives_up_where_nothing_goes, reads_fail, tells_how_it_goes, tells_what_is_not_kept, all_damaged,
         tells_the_time, begins_anew_amid, begins_anew_between, comes_after_end, ends_nothing)
 WITH_FFMPEG = (encoder_is_served, both_are_served)
 LONGEST = (all_damaged, both_are_served, server_goes_away, gives_up_where_nothing_goes)
