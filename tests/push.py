@@ -17,13 +17,15 @@ from push_inputs import beginning, damaged, fault_of, input_of, messages, pieces
 from push_model import Standing
 from push_peer import ALL_OK, address_of, held_port
 from push_room import PushRoom
-from push_rows import BAD_ANSWERS, BAD_PLACES, ELSEWHERE, GOES_ON_AFTER, HANGS_UP, ORIGIN_REFUSES, SERVER_REFUSES, STARTS, WRONG_WORDS
+from push_rows import BAD_ANSWERS, BAD_PLACES, ELSEWHERE, GOES_ON_AFTER, HANGS_UP, KEEPS_NOT_ALL, ORIGIN_REFUSES, SERVER_REFUSES, STARTS, WRONG_WORDS
 from rooms import Wrong, check, ended, try_named
 
 HERE = pathlib.Path(__file__).resolve().parent
 # The rendition's time is ahead of any clock, so that what is published needs no time of its own.
 CAM = 'channel cam target=4 part=1000000 skip=24 window=36 renditions=hi,lo first=0 start=4000000000000'
 SHORT = 'channel cam target=2 part=1000000 skip=12 window=18 renditions=hi,lo first=0 start=4000000000000'
+# What a push says if the origin has accepted something that it keeps nowhere but in memory.
+NOT_KEPT = "llhls: the origin has accepted an item that it can't keep on disk: NotKept"
 
 # ---- what tests look at
 
@@ -163,6 +165,17 @@ def goes_on_after(room, plan, count):
     took(peer, input_of('two'))
 
 
+def goes_on_unkept(room, plan, count):
+    """The origin can't keep some of what it accepts on disk. The program says so once, and goes on."""
+    peer = room.peer(plan)
+    run = room.push(peer.address, input_of('two'))
+    passes(run, count)
+    others = [line for line in run.stderr.splitlines() if 'the connection is lost' not in line]
+    check(others == [NOT_KEPT], f'it says {others}')
+    took(peer, input_of('two'))
+    check(peer.has_ended(), 'the origin still waits')
+
+
 def goes_on_everywhere(room, name, how, number):
     """The message of this number of an input, from 0, is lost in this way."""
     peer = room.peer('ok,' * number + f'{how}/{ALL_OK}')
@@ -240,17 +253,30 @@ def shown_by(terminal):
         return shown.decode().replace('\r', '')
 
 
-def tells_how_it_goes(room):
-    """If standard error is a terminal, it has a line of what was published so far, at most once a second, and a line for each fault."""
-    peer = room.peer(r'ok,ok,ok,ok,no 4 TooLong\n')
+# What is shown of a push that goes on.
+PROGRESS = r'(llhls: [1-9] parts, [0-9] segments, [0-9]\.[05]00 s, [0-9]+ kB/s, [0-9]+\.[0-9]{3} s behind  )+\n'
+
+
+def shows(room, plan, pattern):
+    """A push to an origin that in the end refuses a message shows lines of this pattern, and then the refusal, if standard error is a terminal."""
+    peer = room.peer(plan)
     ours, its = pty.openpty()
     with open(ours, 'rb', buffering=0) as terminal:
         with open(its, 'wb', buffering=0) as stderr:
             run = room.push(peer.address, slowly(room, 'many'), words=(), stderr=stderr)
         shown = shown_by(terminal)
-    line, _, rest = shown.partition('\n')
-    progress = r'(llhls: [1-9] parts, 0 segments, [01]\.[05]00 s, [0-9]+ kB/s, [0-9]+\.[0-9]{3} s behind  )+'
-    check(re.fullmatch(progress, line) and rest == 'llhls: no 4 TooLong\n' and (run.status, run.stdout) == (3, b''), f'status {run.status}, and it shows {shown}')
+    is_shown = re.fullmatch(pattern + 'llhls: no 4 TooLong\n', shown)
+    check(is_shown and (run.status, run.stdout) == (3, b''), f'status {run.status}, and it shows {shown}')
+
+
+def tells_how_it_goes(room):
+    """A terminal has a line of what was published so far, at most once a second, and a line for each fault."""
+    shows(room, r'ok,ok,ok,ok,no 4 TooLong\n', PROGRESS)
+
+
+def tells_what_is_not_kept(room):
+    """A terminal has a line of its own for the first item that isn't kept."""
+    shows(room, r'ok,ok,ok,ok,unkept,unkept,no 4 TooLong\n', f'{PROGRESS}{re.escape(NOT_KEPT)}\n({PROGRESS})?')
 
 
 # ---- a push that is stopped, and one that comes after another one
@@ -410,7 +436,7 @@ def both_are_served(room):
 
 # ---- all tests
 
-ONCE = (no_server, server_goes_away, gives_up_at_once, gives_up_where_nothing_goes, reads_fail, tells_how_it_goes, all_damaged,
+ONCE = (no_server, server_goes_away, gives_up_at_once, gives_up_where_nothing_goes, reads_fail, tells_how_it_goes, tells_what_is_not_kept, all_damaged,
         tells_the_time, begins_anew_amid, begins_anew_between, comes_after_end, ends_nothing)
 WITH_FFMPEG = (encoder_is_served, both_are_served)
 LONGEST = (all_damaged, both_are_served, server_goes_away, gives_up_where_nothing_goes)
@@ -438,6 +464,8 @@ def origins():
         yield hangs_up, plan, count
     for plan, count in GOES_ON_AFTER:
         yield goes_on_after, plan, count
+    for plan, count in KEEPS_NOT_ALL:
+        yield goes_on_unkept, plan, count
     for name, count in (('two', 4), ('gap', 9)):
         for how, number in itertools.product(('lose', 'drop', 'half'), range(count)):
             yield goes_on_everywhere, name, how, number

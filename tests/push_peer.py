@@ -1,8 +1,8 @@
 """An origin that misbehaves as a plan says: it hangs up, refuses, or answers nonsense.
 
-A plan says for each connection, separated by `/`, what becomes of each message, separated by `,`: `ok`; `lose` accepts it and hangs up; `drop` takes it and hangs up; `half` takes
-some of it and hangs up; `close` hangs up before it; anything else is the answer, with escapes as in Python. What begins with `?` applies to the question where the rendition
-stands, and comes first; without it the origin answers where its rendition stands.
+A plan says for each connection, separated by `/`, what becomes of each message, separated by `,`: `ok`; `unkept` accepts it, but can't keep it on disk; `lose` accepts it and hangs
+up; `drop` takes it and hangs up; `half` takes some of it and hangs up; `close` hangs up before it; anything else is the answer, with escapes as in Python. What begins with `?`
+applies to the question where the rendition stands, and comes first; without it the origin answers where its rendition stands.
 """
 import socket
 import struct
@@ -107,12 +107,13 @@ class Meeting:
         message = take(self.stream)
         if what == 'drop' or not message:
             return False
-        if what in ('ok', 'lose'):
+        if what in ('ok', 'unkept', 'lose'):
             self.rendition.accept(message)
         if what == 'lose':
             self.rendition.lost = message
             return False
-        self.link.sendall(b'ok %d\n' % self.rendition.count if what == 'ok' else answer_of(what))
+        answers = {'ok': b'ok %d\n' % self.rendition.count, 'unkept': b'no 20 NotKept\n'}
+        self.link.sendall(answers[what] if what in answers else answer_of(what))
         return True
 
     def serve(self, plan):

@@ -27,10 +27,21 @@ GOES_ON_AFTER = (
     ('?close/?half/?drop/ok,ok,ok,ok', 3),
     ('half/?drop/lose/ok,half/drop/lose/ok,lose/ok', 7),
 )
+# Plans of one that accepts messages, some of which it can't keep on disk; each with the number of lost connections.
+KEEPS_NOT_ALL = (
+    ('unkept,ok,ok,ok', 0),
+    ('ok,ok,ok,unkept', 0),
+    ('unkept,unkept,ok,unkept', 0),
+    ('ok,unkept,drop/unkept,close/unkept', 2),
+)
 # Plans of one that refuses a message, with its refusal and the number of messages that it has accepted.
 ORIGIN_REFUSES = (
     (r'ok,no 4 TooLong\n', 'no 4 TooLong', 1),
     (r'no 14 UnknownChannel\n', 'no 14 UnknownChannel', 0),
+    (r'ok,no 20 NotKeptYet\n', 'no 20 NotKeptYet', 1),
+    (r'ok,no 21 NotKept\n', 'no 21 NotKept', 1),
+    (r'ok,no 020 NotKept\n', 'no 020 NotKept', 1),
+    (r'unkept,no 12 Memory\n', 'no 12 Memory', 1),
     (r'ok,ok,ok,no 2 Ended\n', 'no 2 Ended', 3),
     (r'?no 14 UnknownChannel\n', 'no 14 UnknownChannel', 0),
     (r'?no 13 BadLine\n', 'no 13 BadLine', 0),
@@ -45,6 +56,7 @@ at 5 0 0 1 4000000000000\n
 '''
 # No answers to the question where the rendition stands, and no answers to a message.
 BAD_PLACES = r'''ok 1\n
+no 20 NotKept\n
 at\n
 at 1 2 3 4\n
 at 1 2 3 4 5 6\n
@@ -76,6 +88,7 @@ no 4 \n
 no x TooLong\n
 no 4 Too Long\n
 no 4 \x1b[2J\n
+no 20 NotKept \n
 ok 1\nok 2\n
 \xff\n
 ok 1                                                            \n

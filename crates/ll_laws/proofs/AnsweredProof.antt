@@ -1,7 +1,8 @@
 -- Each answer of an origin is read by `llhls push` as what it says.
-use Rattle.std.proofs.Common.{◌≡◌, ℕ, ◌<◌, ◌≤◌, ◌^◌, ◌&&◌, Bool, true, false, List, [], ◌∷◌, ◌++◌, Some, refl, ap, ap₂, sym, ◌∙◌, append_assoc, arith, codes, decimal, is_some, length, length-append, nat_le}
+use Rattle.std.proofs.Common.{◌≡◌, ℕ, ◌<◌, ◌≤◌, ◌^◌, ◌&&◌, ◌||◌, not, Bool, true, false, List, [], ◌∷◌, ◌++◌, Some, refl, ap, ap₂, sym, ◌∙◌, append_assoc, arith, codes, decimal, is_some, length, length-append, nat_le}
 use Rattle.std.proofs.lemmas.Bool.{and_from, and_parts, leb-true}
 use Rattle.std.proofs.lemmas.Fmt.{length-decimal-le}
+use Rattle.std.specs.Fmt.{digits}
 use Rattle.ll_attr.specs.Numbers.{number_in}
 use Rattle.ll_entry.proofs.Numbers.{number-back, number-word}
 use Rattle.ll_format.proofs.FormatLaws.{key_again, lacks}
@@ -12,75 +13,96 @@ use Rattle.ll_announce.specs.Standings.{standing}
 use Rattle.ll_announce.proofs.StandingLaws.{standing-laws}
 use Rattle.ll_format.specs.Format.{flag_text}
 use Rattle.ll_verdict.specs.declared.standing.Standing.{Standing as Told}
-use Rattle.ll_push.specs.Answers.{counts, ended, gives, halves, is_code_and_name, is_word}
+use Rattle.ll_push.specs.Answers.{counts, ended, gives, gives_reason, halves, is_code_and_name, is_not_kept, is_ok, is_word}
 use Rattle.ll_rendition.specs.declared.fault.PublishFault.TheVariants as fault
-use Rattle.ll_laws.specs.Pushed.{AcceptedLaw, IsAnswer, IsCounted, RefusedLaw, StandingLaw, told_of}
+use Rattle.ll_laws.specs.Pushed.{AcceptedLaw, IsAnswer, IsCounted, NotKeptLaw, RefusedLaw, StandingLaw, told_of}
 use Rattle.ll_laws.proofs.SentLines.{after-at, any-at, before-at}
+
+or-true : (a b : Bool) → a ≡ true → (a || b) ≡ true
+or-true a b h = ap (λ c. c || b) h
 
 pub accepted : AcceptedLaw
 unfolding ok_line
-accepted count small = record {
-  line = codes "ok " ++ decimal count;
-  is = refl;
-  short =
-      let few = length-decimal-le 20 count (omega arith) (omega (arith, small)) small in
-      let sum = length-append (decimal count) (codes "\n") in
-      omega (arith, few, sum);
-  accepts = ap counts (key_again (codes "ok ") (decimal count)) ∙ ap is_some (number-back count small);
-  refuses = refl;
-}
+accepted count small = (
+  record {
+    line = codes "ok " ++ decimal count;
+    is = refl;
+    short =
+        let few = length-decimal-le 20 count (omega arith) (omega (arith, small)) small in
+        let sum = length-append (decimal count) (codes "\n") in
+        omega (arith, few, sum);
+    accepts =
+        or-true (is_ok (codes "ok " ++ decimal count)) _ (ap counts (key_again (codes "ok ") (decimal count)) ∙ ap is_some (number-back count small));
+    refuses = refl;
+  },
+  refl,
+)
 
--- the words of a refusal: its number has two digits at most, and its name is up to 30 letters
+pub not_kept : NotKeptLaw
+unfolding digits refusal_line
+not_kept count = (record { line = codes "no 20 NotKept"; is = refl; short = leb-true 14 128 refl; accepts = refl; refuses = refl }, refl)
+
+-- the line of a number and a name
+abbrev spoken : ℕ → List ℕ → List ℕ
+spoken code name = codes "no " ++ (decimal code ++ 32 ∷ name)
+
+-- the words of a refusal: its number has two digits at most, its name is up to 30 letters, and they aren't those of an item that isn't kept
 abbrev AreWords : Refusal → Type 0
-AreWords reason = (is_word (refusal_name reason) ≡ true) × ((nat_le (refusal_code reason) 99 && nat_le (length (refusal_name reason)) 30) ≡ true)
+AreWords reason =
+    (is_word (refusal_name reason) ≡ true) × ((nat_le (refusal_code reason) 99 && nat_le (length (refusal_name reason)) 30) ≡ true)
+    × (is_not_kept (spoken (refusal_code reason) (refusal_name reason)) ≡ false)
 
 words : (reason : Refusal) → AreWords reason
-words (Rule fault.NoRendition) = (refl, refl)
-words (Rule fault.Ended) = (refl, refl)
-words (Rule fault.BadDuration) = (refl, refl)
-words (Rule fault.TooLong) = (refl, refl)
-words (Rule fault.OpenSegment) = (refl, refl)
-words (Rule fault.CountEnd) = (refl, refl)
-words (Rule fault.TimeEnd) = (refl, refl)
-words (Rule fault.IdTaken) = (refl, refl)
-words (Rule fault.BadAttribute) = (refl, refl)
-words (Rule fault.IdUnknown) = (refl, refl)
-words (Rule fault.RecordFull) = (refl, refl)
-words (Rule fault.Memory) = (refl, refl)
-words (Rule fault.NoSegment) = (refl, refl)
-words (Rule fault.TimeBack) = (refl, refl)
-words BadLine = (refl, refl)
-words UnknownChannel = (refl, refl)
-words LineTooLong = (refl, refl)
-words MediaTooLong = (refl, refl)
+unfolding digits
+words (Rule fault.NoRendition) = (refl, refl, refl)
+words (Rule fault.Ended) = (refl, refl, refl)
+words (Rule fault.BadDuration) = (refl, refl, refl)
+words (Rule fault.TooLong) = (refl, refl, refl)
+words (Rule fault.OpenSegment) = (refl, refl, refl)
+words (Rule fault.CountEnd) = (refl, refl, refl)
+words (Rule fault.TimeEnd) = (refl, refl, refl)
+words (Rule fault.IdTaken) = (refl, refl, refl)
+words (Rule fault.BadAttribute) = (refl, refl, refl)
+words (Rule fault.IdUnknown) = (refl, refl, refl)
+words (Rule fault.RecordFull) = (refl, refl, refl)
+words (Rule fault.Memory) = (refl, refl, refl)
+words (Rule fault.NoSegment) = (refl, refl, refl)
+words (Rule fault.TimeBack) = (refl, refl, refl)
+words BadLine = (refl, refl, refl)
+words UnknownChannel = (refl, refl, refl)
+words LineTooLong = (refl, refl, refl)
+words MediaTooLong = (refl, refl, refl)
 
 halves-are : (front back : List ℕ) → lacks 32 front ≡ true → halves (front ++ 32 ∷ back) ≡ Some (front, back)
 halves-are front back spaceless =
     rw (any-at 32 front back) (ap₂ (λ a b. Some (a, b)) (before-at 32 front back spaceless) (after-at 32 front back spaceless))
 
 -- a line of a number and a name refuses
-said : (code : ℕ) (name : List ℕ) → code < 2 ^ 64 → is_word name ≡ true → length name ≤ 30 → IsAnswer (refusal_line code name) false true
+said : (code : ℕ) (name : List ℕ) → code < 2 ^ 64 → is_word name ≡ true → length name ≤ 30 → is_not_kept (spoken code name) ≡ false
+    → IsAnswer (refusal_line code name) false true
 unfolding refusal_line
-said code name small word few = record {
-  line = codes "no " ++ (decimal code ++ 32 ∷ name);
+said code name small word few other = record {
+  line = spoken code name;
   is = ap (λ l. codes "no " ++ l) (sym (append_assoc (decimal code) (32 ∷ name) (codes "\n")));
   short =
       let digits = length-decimal-le 20 code (omega arith) (omega (arith, small)) small in
       let all = length-append (decimal code) (codes " " ++ (name ++ codes "\n")) in
       let rest = length-append name (codes "\n") in
       omega (arith, digits, all, rest, few);
-  accepts = refl;
+  accepts = other;
   refuses =
-      ap gives (key_again (codes "no ") (decimal code ++ 32 ∷ name)) ∙ ap is_code_and_name (halves-are (decimal code) name (number-word code small).spaceless)
-      ∙ and_from (is_some (number_in 20 (decimal code))) (is_word name) (ap is_some (number-back code small)) word;
+      and_from (gives_reason (spoken code name)) (not (is_not_kept (spoken code name)))
+      (ap gives (key_again (codes "no ") (decimal code ++ 32 ∷ name)) ∙ ap is_code_and_name (halves-are (decimal code) name (number-word code small).spaceless)
+      ∙ and_from (is_some (number_in 20 (decimal code))) (is_word name) (ap is_some (number-back code small)) word)
+      (ap not other);
 }
 
 pub refused : RefusedLaw
 refused reason =
-    let two = words reason in
-    let few = and_parts (nat_le (refusal_code reason) 99) (nat_le (length (refusal_name reason)) 30) two.1 in
+    let three = words reason in
+    let few = and_parts (nat_le (refusal_code reason) 99) (nat_le (length (refusal_name reason)) 30) three.1 in
     let small = leb-true (refusal_code reason) 99 few.0 in
-    said (refusal_code reason) (refusal_name reason) (omega (arith, small)) two.0 (leb-true (length (refusal_name reason)) 30 few.1)
+    said (refusal_code reason) (refusal_name reason) (omega (arith, small)) three.0 (leb-true (length (refusal_name reason)) 30 few.1) three.2
 
 -- ---- where a rendition stands
 

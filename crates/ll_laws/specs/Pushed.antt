@@ -16,11 +16,11 @@ use Rattle.ll_publish.specs.Line as says
 use Rattle.ll_publish.specs.Lines.{lines}
 use Rattle.ll_publish.specs.Refusals.{reply_line}
 use Rattle.ll_publish.specs.declared.refusal.Refusal.{Refusal}
-use Rattle.ll_publish.specs.declared.success.Success.TheVariants.{Accepted, Standing as Stands}
+use Rattle.ll_publish.specs.declared.success.Success.TheVariants.{Accepted, NotKept, Standing as Stands}
 use Rattle.ll_verdict.specs.declared.standing.Standing.{Standing as Told}
 use Rattle.ll_announce.specs.Standings.{standing}
 use Rattle.ll_announce.specs.declared.standing.Standing.{Standing}
-use Rattle.ll_push.specs.Answers.{accepts, ended, refuses}
+use Rattle.ll_push.specs.Answers.{accepts, ended, is_not_kept, refuses}
 use Rattle.ll_announce.specs.Courses.{course_then, first_of, gap_time, later_readings, messages, opening, spoken, texts}
 use Rattle.ll_announce.specs.Messages.{Names}
 use Rattle.ll_announce.specs.declared.course.Course.{Course}
@@ -113,9 +113,13 @@ pub record IsAnswer (text : List ℕ) (accepted refused : Bool) : Type 0 where
   pub accepts : accepts line ≡ accepted
   pub refuses : refuses line ≡ refused
 
--- the answer to an accepted item accepts
+-- the answer to an accepted item accepts, and doesn't say that the item isn't kept
 abbrev pub AcceptedLaw : Type 0
-AcceptedLaw = (count : ℕ) → count < 2 ^ 64 → IsAnswer (reply_line (Ok (Accepted count))) true false
+AcceptedLaw = (count : ℕ) → count < 2 ^ 64 → (a : IsAnswer (reply_line (Ok (Accepted count))) true false) × (is_not_kept a.line ≡ false)
+
+-- the answer to an item that is accepted, but not kept, accepts and says so
+abbrev pub NotKeptLaw : Type 0
+NotKeptLaw = (count : ℕ) → (a : IsAnswer (reply_line (Ok (NotKept count))) true false) × (is_not_kept a.line ≡ true)
 
 -- the answer to a refused line refuses, for any reason
 abbrev pub RefusedLaw : Type 0

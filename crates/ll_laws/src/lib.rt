@@ -3,7 +3,7 @@
 #![tactic(auto)]
 
 ghost use Rattle.ll_laws.specs.Laws.{CompanionLaw, OwnSegmentLaw, ReadableLaw, TextLaw};
-ghost use Rattle.ll_laws.specs.Pushed.{AcceptedLaw, PiecesLaw, PushedLaw, RefusedLaw, StandingLaw};
+ghost use Rattle.ll_laws.specs.Pushed.{AcceptedLaw, NotKeptLaw, PiecesLaw, PushedLaw, RefusedLaw, StandingLaw};
 ghost use Rattle.ll_laws.specs.Worked.{WorkedPlaylists};
 
 /// States the promise to players, on texts: the text of a delta update, applied to the text of a full playlist of the same
@@ -38,10 +38,11 @@ pub fn pushed_law()
     ensures input { PushedLaw }
 {}
 
-/// States that `llhls push` reads each line that answers a publisher as what it is: an acceptance if the item is accepted, a refusal for each
-/// reason that an origin has, and the standing of a rendition as the line says it.
+/// States that `llhls push` reads each line that answers a publisher as what it is: an acceptance if the item is accepted, also if it says that
+/// the item isn't kept, a refusal for each reason that an origin has, and the standing of a rendition as the line says it.
 pub fn answered_law()
     ensures accepted { AcceptedLaw }
+    ensures not_kept { NotKeptLaw }
     ensures refused { RefusedLaw }
     ensures standing { StandingLaw }
 {}

@@ -7,7 +7,7 @@ use Rattle.ll_rendition.specs.declared.fault.PublishFault.TheVariants as fault
 use Rattle.ll_publish.specs.declared.refusal.Refusal.{Refusal}
 use Rattle.ll_publish.specs.declared.refusal.Refusal.TheVariants.{Rule, BadLine, UnknownChannel, LineTooLong, MediaTooLong}
 use Rattle.ll_publish.specs.declared.success.Success.{Success}
-use Rattle.ll_publish.specs.declared.success.Success.TheVariants.{Accepted, Standing}
+use Rattle.ll_publish.specs.declared.success.Success.TheVariants.{Accepted, NotKept, Standing}
 use Rattle.ll_verdict.specs.declared.standing.Standing as verdict
 
 abbrev pub out_of_memory : Refusal
@@ -74,6 +74,10 @@ refusal_line code name = codes "no " ++ (decimal code ++ (codes " " ++ (name ++ 
 unfoldable pub ok_line : ℕ → List ℕ
 ok_line count = codes "ok " ++ (decimal count ++ codes "\n")
 
+-- the line that answers an item which the channel has accepted, but which isn't in the spool
+abbrev pub not_kept_line : List ℕ
+not_kept_line = refusal_line 20 (codes "NotKept")
+
 -- the line that refuses a publisher's line
 abbrev pub no_line : Refusal → List ℕ
 no_line r = refusal_line (refusal_code r) (refusal_name r)
@@ -93,5 +97,6 @@ at_line s =
 -- the line that answers a publisher's line
 abbrev pub reply_line : Result Success Refusal → List ℕ
 reply_line (Ok (Accepted count)) = ok_line count
+reply_line (Ok (NotKept count)) = not_kept_line
 reply_line (Ok (Standing standing)) = at_line standing
 reply_line (Err reason) = no_line reason

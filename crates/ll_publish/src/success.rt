@@ -6,6 +6,9 @@ use ll_verdict::Standing;
 pub enum Success {
     /// The number of items that the channel has with the line's item, which it accepted.
     Accepted(u64),
+    /// The same of an item that couldn't be written to the spool. Players have it all the same, so the line that answers it refuses nothing,
+    /// though it looks like a refusal.
+    NotKept(u64),
     /// Where the rendition that was asked about stands.
     Standing(Standing),
 }

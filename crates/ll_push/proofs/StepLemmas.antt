@@ -222,6 +222,6 @@ module _ (t : TargetValue) (p : Publication) (a : Ahead) (first : LinkValue) (s 
             some-by m h = grind (arith, nat_tests)
 
         -- by the answer that was read
-        pub delivered : (d : Delivery) → IsDelivered message.bytes mid last d → d ≡ delivery.Accepted
+        pub delivered : (d : Delivery) → IsDelivered message.bytes mid last d → (unkept : Bool) → d ≡ delivery.Accepted unkept
             → SoFar t p a first (record after { place = led_by after.place message }) left_then last true (n + 1)
-        delivered d said e = let ok = subst (IsDelivered message.bytes mid last) e said in message-more ok.0 ok.1 ok.2
+        delivered d said unkept e = let ok = subst (IsDelivered message.bytes mid last) e said in message-more ok.0 ok.1 ok.2

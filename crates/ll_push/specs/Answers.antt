@@ -1,5 +1,5 @@
 -- The answers of an origin: what a line, without its end, says.
-use Rattle.std.specs.Prelude.{◌≡◌, ◌⊎◌, ⊤, ℕ, ◌&&◌, ◌==◌, Bool, true, false, List, [], ◌∷◌, ◌++◌, IsUtf8, Option, Some, None, codes, flat_map, is_some, length, nat_le, if◌then◌else◌}
+use Rattle.std.specs.Prelude.{◌≡◌, ◌⊎◌, ⊤, ℕ, ◌&&◌, ◌||◌, ◌==◌, Bool, true, false, not, List, [], ◌∷◌, ◌++◌, IsUtf8, Option, Some, None, bytes_eq, codes, flat_map, is_some, length, nat_le, if◌then◌else◌}
 use Rattle.std.specs.List.{list_all, list_any, before_first, after_first}
 use Rattle.std.specs.Char.{is_ascii_alphabetic}
 use Rattle.ll_announce.specs.Standings.{standing}
@@ -18,9 +18,17 @@ abbrev pub counts : Option (List ℕ) → Bool
 counts (Some count) = is_some (number_in 20 count)
 counts None = false
 
--- the line accepts a message; its number is how many items the channel has with it
+-- the line is `ok` and a number: how many items the channel has with the message that it accepts
+abbrev pub is_ok : List ℕ → Bool
+is_ok line = counts (after (codes "ok ") line)
+
+-- the line says that a message is accepted, though it couldn't be kept on disk
+abbrev pub is_not_kept : List ℕ → Bool
+is_not_kept line = bytes_eq line (codes "no 20 NotKept")
+
+-- the line accepts a message
 abbrev pub accepts : List ℕ → Bool
-accepts line = counts (after (codes "ok ") line)
+accepts line = is_ok line || is_not_kept line
 
 -- one or more letters
 abbrev pub is_word : List ℕ → Bool
@@ -45,9 +53,12 @@ abbrev pub gives : Option (List ℕ) → Bool
 gives (Some reason) = is_reason reason
 gives None = false
 
--- the line refuses a message
+abbrev pub gives_reason : List ℕ → Bool
+gives_reason line = gives (after (codes "no ") line)
+
+-- the line refuses a message: it gives a reason, and not that of a message which is accepted, though not kept
 abbrev pub refuses : List ℕ → Bool
-refuses line = gives (after (codes "no ") line)
+refuses line = gives_reason line && not (is_not_kept line)
 
 -- the line isn't an answer, or isn't UTF-8
 abbrev pub IsNone : List ℕ → Type 0
@@ -55,7 +66,7 @@ IsNone line = ¬ (IsUtf8 line) ⊎ ((accepts line ≡ false) × (refuses line �
 
 -- the answer is what the line says; one that refuses is the line itself
 abbrev pub IsSaid : List ℕ → Answer → Type 0
-IsSaid line Accepted = accepts line ≡ true
+IsSaid line (Accepted unkept) = (accepts line ≡ true) × (unkept ≡ is_not_kept line)
 IsSaid line (Standing s) = standing.read line ≡ Some s
 IsSaid line (Refused text) = (text ≡ line) × (refuses line ≡ true)
 

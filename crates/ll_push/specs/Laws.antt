@@ -21,6 +21,10 @@ is_inside b = not (b == 10)
 abbrev pub has_no_end : List ℕ → Bool
 has_no_end line = list_all is_inside line
 
+-- no line both accepts and refuses
+abbrev pub AreApart : Type 0
+AreApart = (line : List ℕ) → accepts line ≡ true → refuses line ≡ false
+
 -- an answer is one line: it has its only LF at its end
 abbrev pub AreLines : Type 0
 AreLines = (line : List ℕ) → (accepts line ≡ true → has_no_end line ≡ true) × (refuses line ≡ true → has_no_end line ≡ true)

@@ -7,7 +7,7 @@ use Rattle.ll_mp4.specs.declared.fault.StreamFault.{StreamFault}
 use Rattle.ll_parts.specs.Stream.{CutterValue, Outcome, advanced_cutter, closed, to_come, with_bytes, with_piece}
 use Rattle.ll_parts.specs.declared.pieces.Piece.{Piece}
 use Rattle.ll_announce.specs.Standings.{standing}
-use Rattle.ll_push.specs.Answers.{IsSaid, accepts, refuses}
+use Rattle.ll_push.specs.Answers.{IsSaid, accepts, is_not_kept, refuses}
 use Rattle.ll_push.specs.Exchanges.{IsExchanged, IsLost, LinkValue}
 use Rattle.ll_push.specs.Publishing.{Ahead, TargetValue, fault_to_come, messages_to_come}
 use Rattle.ll_push.specs.declared.answer.Answer.{Answer}
@@ -120,9 +120,9 @@ IsAskedSo text before after (asked.Standing s) = (line : List ℕ) × IsExchange
 IsAskedSo text before after (asked.Refused line) = IsExchanged text line before after × (refuses line ≡ true)
 IsAskedSo text before after asked.Lost = IsLost text before after
 
--- the text was accepted, or refused, or the connection was lost
+-- the text was accepted, and `unkept` if it couldn't be kept on disk; or it was refused, or the connection was lost
 abbrev pub IsDelivered : List ℕ → LinkValue → LinkValue → Delivery → Type 0
-IsDelivered text before after delivery.Accepted = (line : List ℕ) × IsExchanged text line before after × (accepts line ≡ true)
+IsDelivered text before after (delivery.Accepted unkept) = (line : List ℕ) × IsExchanged text line before after × (accepts line ≡ true) × (unkept ≡ is_not_kept line)
 IsDelivered text before after (delivery.Refused line) = IsExchanged text line before after × (refuses line ≡ true)
 IsDelivered text before after delivery.Lost = IsLost text before after
 

@@ -19,7 +19,10 @@ const LIMIT: usize = 128;
 #[derive(Drop)]
 pub(crate) enum Answer {
     /// The message was accepted.
-    Accepted,
+    Accepted {
+        /// Whether the origin says that it couldn't keep it on disk.
+        unkept: bool,
+    },
     /// Where the rendition stands.
     Standing(Standing),
     /// The line that refuses what was sent, without its end.
@@ -89,7 +92,8 @@ fn answer_of(alloc: Global, line: &[u8]) -> Result<Answer, NoAnswer>
         return Err(NoAnswer::Bad);
     };
     if accepts(text) {
-        Ok(Answer::Accepted)
+        let unkept = is_not_kept(text);
+        Ok(Answer::Accepted { unkept })
     } else if refuses(text) {
         Ok(Answer::Refused(Text::from_str(alloc, text)?))
     } else if let Some(standing) = Standing::read(text) {
@@ -99,9 +103,23 @@ fn answer_of(alloc: Global, line: &[u8]) -> Result<Answer, NoAnswer>
     }
 }
 
-/// Returns whether `line` accepts: it is `ok` and a number.
+/// Returns whether `line` accepts what was sent, also if that couldn't be kept on disk.
 fn accepts(line: &str) -> bool
     ensures { result ≡ spec.accepts line.now }
+{
+    is_ok(line) || is_not_kept(line)
+}
+
+/// Returns whether `line` says that what was sent is accepted, though it couldn't be kept on disk.
+fn is_not_kept(line: &str) -> bool
+    ensures { result ≡ spec.is_not_kept line.now }
+{
+    line == "no 20 NotKept"
+}
+
+/// Returns whether `line` is `ok` and a number.
+fn is_ok(line: &str) -> bool
+    ensures { result ≡ spec.is_ok line.now }
 {
     match after(line, "ok ") {
         Some(count) => parse_number(count, 20).is_some(),
@@ -109,9 +127,16 @@ fn accepts(line: &str) -> bool
     }
 }
 
-/// Returns whether `line` refuses: it is `no`, a number and a name of letters.
+/// Returns whether `line` refuses what was sent: it gives a reason, and doesn't say that it is accepted, though not kept.
 fn refuses(line: &str) -> bool
     ensures { result ≡ spec.refuses line.now }
+{
+    gives_reason(line) && !is_not_kept(line)
+}
+
+/// Returns whether `line` is `no`, a number and a name of letters.
+fn gives_reason(line: &str) -> bool
+    ensures { result ≡ spec.gives_reason line.now }
 {
     match after(line, "no ") {
         Some(reason) => is_reason(reason),

@@ -28,7 +28,10 @@ enum Sent {
 #[derive(Drop)]
 pub(crate) enum Delivery {
     /// The origin accepted it.
-    Accepted,
+    Accepted {
+        /// Whether the origin says that it couldn't keep it on disk.
+        unkept: bool,
+    },
     /// The origin refused it with this line, which is without its end.
     Refused(Text),
     /// The connection was lost before it was sent, amid it, or before its answer.
@@ -61,7 +64,7 @@ pub(crate) fn ask<P: Link>(
     match exchange(alloc, link, &text)? {
         Sent::Answered(Answer::Standing(standing)) => Ok(Asked::Standing(standing)),
         Sent::Answered(Answer::Refused(line)) => Ok(Asked::Refused(line)),
-        Sent::Answered(Answer::Accepted) => Err(PushFault::BadAnswer),
+        Sent::Answered(Answer::Accepted { .. }) => Err(PushFault::BadAnswer),
         Sent::Lost => Ok(Asked::Lost),
     }
 }
@@ -79,7 +82,7 @@ pub(crate) fn deliver<P: Link>(
     ensures cut { OnErr result (AppendsPrefix (P.written link.old) (P.written link.new) message.now.bytes) }
 {
     match exchange(alloc, link, message.bytes())? {
-        Sent::Answered(Answer::Accepted) => Ok(Delivery::Accepted),
+        Sent::Answered(Answer::Accepted { unkept }) => Ok(Delivery::Accepted { unkept }),
         Sent::Answered(Answer::Refused(line)) => Ok(Delivery::Refused(line)),
         Sent::Answered(Answer::Standing(_)) => Err(PushFault::BadAnswer),
         Sent::Lost => Ok(Delivery::Lost),

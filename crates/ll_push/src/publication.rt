@@ -116,13 +116,16 @@ impl Publication {
             let Some(message) = self.message(alloc, target, source, clock)? else {
                 return Ok(Step::Whole);
             };
-            match deliver(alloc, link, &message)? {
-                Delivery::Accepted => {}
+            let unkept = match deliver(alloc, link, &message)? {
+                Delivery::Accepted { unkept } => unkept,
                 Delivery::Refused(line) => return Ok(Step::Refused(line)),
                 Delivery::Lost => {
                     self.kept.put_back(message)?;
                     return Ok(Step::Gone { accepted });
                 }
+            };
+            if unkept {
+                watch.not_kept();
             }
             self.place = self.place.after(message.said());
             watch.accepted(message.said(), message.bytes().len());

@@ -6,6 +6,9 @@ pub trait Watch {
     /// Is called when publishing begins or goes on at `standing` on a connection.
     fn stands(&mut self, standing: &Standing);
 
+    /// Is called when the origin has accepted a message that it couldn't keep on disk, before `accepted`.
+    fn not_kept(&mut self);
+
     /// Is called when the origin has accepted a message of `bytes` bytes that announces `said`.
     fn accepted(&mut self, said: Said, bytes: usize);
 

@@ -189,6 +189,7 @@ fn add_pieces(alloc: Global, told: &mut String, input: &str) -> Result<(), Alloc
 pub(crate) const REPLIES: &str = "feed: reply
 1 => ok 1␊
 18446744073709551615 => ok 18446744073709551615␊
+an item that isn't kept => no 20 NotKept␊
 too long a line => no 15 LineTooLong␊
 a bad line => no 13 BadLine␊
 too long a part => no 4 TooLong␊
@@ -252,6 +253,7 @@ fn reply(name: &str) -> Result<Success, Refusal> {
     match name {
         "too long a line" => Err(Refusal::LineTooLong),
         "too many bytes" => Err(Refusal::MediaTooLong),
+        "an item that isn't kept" => Ok(Success::NotKept(7)),
         "a bad line" => Err(Refusal::from(ItemFault::BadLine)),
         "too long a part" => Err(Refusal::from(PublishFault::TooLong)),
         _ => Ok(Success::Accepted(name.parse::<u64>().unwrap_or(999))),

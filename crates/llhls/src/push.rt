@@ -30,6 +30,8 @@ struct Meter<'a, R> {
     last: Option<Instant>,
     /// Whether the cursor stands at the end of what was shown.
     after: bool,
+    /// Whether it was said that an item couldn't be kept.
+    unkept: bool,
 }
 
 impl<'a, R: Eprint + Clock> Meter<'a, R> {
@@ -45,6 +47,7 @@ impl<'a, R: Eprint + Clock> Meter<'a, R> {
             bytes: 0,
             last: Instant::now(rt).ok(),
             after: false,
+            unkept: false,
         }
     }
 
@@ -110,6 +113,16 @@ impl<R: Eprint + Clock> Watch for Meter<'_, R> {
     fn stands(&mut self, standing: &Standing) {
         if self.time.is_none() {
             self.time = Some(standing.time.saturating_mul(1_000));
+        }
+    }
+
+    fn not_kept(&mut self) {
+        if !self.unkept {
+            self.unkept = true;
+            self.end_line();
+            let _ = eprintln!(self.rt;
+                "llhls: the origin has accepted an item that it can't keep on disk: NotKept"
+            );
         }
     }
 

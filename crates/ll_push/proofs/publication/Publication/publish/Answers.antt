@@ -33,26 +33,26 @@ returns-in_default-clause-step g c a told =
     message-none _ _ _ _ _ _ _ _ _ (c.loop.invariant.goes a told) c.message.new.self (told_ahead (g.R.Reader.left c.message.new.source) (g.C.Calendar.coming c.message.new.clock))
     c.in_ok-message.field-0 c.in_ok-message.ensures.next c.in_default.is
 
-pub returns-in_err-deliver-clause-cut : goal.returns-in_err-deliver-clause-cut
-returns-in_err-deliver-clause-cut g c a told =
-    on-err c.from_residual-in_err-deliver.result _
+pub returns-in_err-unkept-clause-cut : goal.returns-in_err-unkept-clause-cut
+returns-in_err-unkept-clause-cut g c a told =
+    on-err c.from_residual-in_err-unkept.result _
     (message-cut _ _ _ _ _ _ _ _ _ (c.loop.invariant.goes a told) c.message.new.self (told_ahead (g.R.Reader.left c.message.new.source) (g.C.Calendar.coming c.message.new.clock))
     c.in_ok-message.field-0 c.in_ok-message.ensures.next c.in-Some.message c.in-Some.is (link_value g.P.Writer.written g.P.Writer.inward g.P.Writer.failures c.deliver.new.link)
-    c.in_err-deliver.ensures.cut)
+    c.in_err-unkept.ensures.cut)
 
-pub returns-in_err-deliver-clause-unanswered : goal.returns-in_err-deliver-clause-unanswered
-returns-in_err-deliver-clause-unanswered g c a told e =
+pub returns-in_err-unkept-clause-unanswered : goal.returns-in_err-unkept-clause-unanswered
+returns-in_err-unkept-clause-unanswered g c a told e =
     message-failed _ _ _ _ _ _ _ _ _ (c.loop.invariant.goes a told) c.message.new.self (told_ahead (g.R.Reader.left c.message.new.source) (g.C.Calendar.coming c.message.new.clock))
     c.in_ok-message.field-0 c.in_ok-message.ensures.next c.in-Some.message c.in-Some.is (link_value g.P.Writer.written g.P.Writer.inward g.P.Writer.failures c.deliver.new.link)
-    (c.in_err-deliver.ensures.unanswered
-    (ap (λ f. Err f) (same-fault c.from_residual-in_err-deliver.result c.in_err-deliver.field-0.0 BadAnswer c.from_residual-in_err-deliver.ensures.1 e)))
+    (c.in_err-unkept.ensures.unanswered
+    (ap (λ f. Err f) (same-fault c.from_residual-in_err-unkept.result c.in_err-unkept.field-0.0 BadAnswer c.from_residual-in_err-unkept.ensures.1 e)))
 
 pub returns-in-Refused-clause-step : goal.returns-in-Refused-clause-step
 returns-in-Refused-clause-step g c a told =
     message-refused _ _ _ _ _ _ _ _ _ (c.loop.invariant.goes a told) c.message.new.self (told_ahead (g.R.Reader.left c.message.new.source) (g.C.Calendar.coming c.message.new.clock))
     c.in_ok-message.field-0 c.in_ok-message.ensures.next c.in-Some.message c.in-Some.is (link_value g.P.Writer.written g.P.Writer.inward g.P.Writer.failures c.deliver.new.link) c.in-Refused.line
     (subst (IsDelivered c.in-Some.message.bytes (link_value g.P.Writer.written g.P.Writer.inward g.P.Writer.failures c.loop.link)
-    (link_value g.P.Writer.written g.P.Writer.inward g.P.Writer.failures c.deliver.new.link)) c.in-Refused.is c.in_ok-deliver.ensures.said)
+    (link_value g.P.Writer.written g.P.Writer.inward g.P.Writer.failures c.deliver.new.link)) c.in-Refused.is c.in_ok-unkept.ensures.said)
 
 pub returns-in_err-put_back-in-Lost-clause-cut : goal.returns-in_err-put_back-in-Lost-clause-cut
 returns-in_err-put_back-in-Lost-clause-cut g c a told =
@@ -60,7 +60,7 @@ returns-in_err-put_back-in-Lost-clause-cut g c a told =
     (message-cut _ _ _ _ _ _ _ _ _ (c.loop.invariant.goes a told) c.message.new.self (told_ahead (g.R.Reader.left c.message.new.source) (g.C.Calendar.coming c.message.new.clock))
     c.in_ok-message.field-0 c.in_ok-message.ensures.next c.in-Some.message c.in-Some.is (link_value g.P.Writer.written g.P.Writer.inward g.P.Writer.failures c.deliver.new.link)
     (subst (IsDelivered c.in-Some.message.bytes (link_value g.P.Writer.written g.P.Writer.inward g.P.Writer.failures c.loop.link)
-    (link_value g.P.Writer.written g.P.Writer.inward g.P.Writer.failures c.deliver.new.link)) c.in-Lost.is c.in_ok-deliver.ensures.said).0)
+    (link_value g.P.Writer.written g.P.Writer.inward g.P.Writer.failures c.deliver.new.link)) c.in-Lost.is c.in_ok-unkept.ensures.said).0)
 
 pub returns-in-Lost-clause-step : goal.returns-in-Lost-clause-step
 returns-in-Lost-clause-step g c a told =
@@ -68,7 +68,7 @@ returns-in-Lost-clause-step g c a told =
     c.in_ok-message.field-0 c.in_ok-message.ensures.next c.in-Some.message c.in-Some.is (link_value g.P.Writer.written g.P.Writer.inward g.P.Writer.failures c.deliver.new.link)
     c.put_back.new.self c.in_ok-put_back-in-Lost.ensures
     (subst (IsDelivered c.in-Some.message.bytes (link_value g.P.Writer.written g.P.Writer.inward g.P.Writer.failures c.loop.link)
-    (link_value g.P.Writer.written g.P.Writer.inward g.P.Writer.failures c.deliver.new.link)) c.in-Lost.is c.in_ok-deliver.ensures.said)
+    (link_value g.P.Writer.written g.P.Writer.inward g.P.Writer.failures c.deliver.new.link)) c.in-Lost.is c.in_ok-unkept.ensures.said)
 
 pub returns-clause-cut : goal.returns-clause-cut
 returns-clause-cut g c a told = some-sent _ _ _ _ _ _ _ _ _ (c.loop.invariant.goes a told)
@@ -88,7 +88,7 @@ loop-preserved g c = record {
       (record { place = place; course = q.course; kept = q.kept; cutter = q.cutter; ends = q.ends }) left (value c.deliver.new.link) true (c.loop.counter + 1))
       (sym (c.after-self.ensures ∙ ap (led q.place) c.said.ensures))
       (delivered _ _ _ _ _ _ _ _ _ (c.loop.invariant.goes a told) q left c.in_ok-message.field-0 c.in_ok-message.ensures.next c.in-Some.message c.in-Some.is (value c.deliver.new.link)
-      c.in_ok-deliver.field-0 c.in_ok-deliver.ensures.said c.in-Accepted.is);
+      c.in_ok-unkept.field-0 c.in_ok-unkept.ensures.said c.in-Accepted.unkept c.in-Accepted.is);
   later = omega (arith, c.loop.invariant.later, c.in_ok-message.ensures.later);
   steady = c.in_ok-message.ensures.steady.0 ∙ c.loop.invariant.steady;
   calm = c.in_ok-message.ensures.steady.1 ∙ c.loop.invariant.calm;
