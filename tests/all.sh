@@ -74,6 +74,7 @@ done
 begin tests/killed.py "$program" 20
 waiting=$((waiting + 1))
 start tests/explained.py "$program"
+start tests/multivariant.py "$program"
 start tests/package.py "$program"
 for name in mutated_playlists mutated_records upgrades connections dropped mutated_heads short_devices large rows; do
     start "tests/$name.sh" "$program"

@@ -93,8 +93,17 @@ def rules():
         yield number in told & named, f"docs/PROFILE.md: rule {number} is {'named by no definition' if number in told else 'named and not there'}"
 
 
+def version():
+    """Yields whether `llhls version` says the version of the file VERSION, and the kit that README.md names."""
+    source, definition = (ROOT / "crates/ll_command" / part for part in ("src/version.rt", "specs/Version.antt"))
+    kit = re.search(r"`(rattle-kit-\w+ logic \w+)`", (ROOT / "README.md").read_text())
+    wanted = f'"llhls {(ROOT / "VERSION").read_text().strip()}\\nproved with {kit[1]},' if kit else None
+    for path in (source, definition):
+        yield wanted is not None and wanted in path.read_text(), f"{path.name}: the version isn't that of VERSION and README.md"
+
+
 passed = failed = 0
-for check in (dependencies, trusted_crates, cited, rules):
+for check in (dependencies, trusted_crates, cited, rules, version):
     for is_so, wrong in check():
         passed += is_so
         failed += not is_so

@@ -70,6 +70,16 @@ for entry in x '' -1 03 +3 18446744073709551616; do
 done
 expect explain_of_entry_0 /dev/null 3 'llhls: NoEntry' explain "$here/check/a_held_request" 0 </dev/null
 expect read_of_no_record_to_explain /dev/null 4 'llhls: Read' explain "$room/none" 1 </dev/null
+printf 'llhls %s\nproved with %s, or a later kit of the same logic\n' "$(<"$root/VERSION")" "$(grep -o 'rattle-kit-[a-z0-9]* logic [a-z0-9]*' "$root/README.md" | head -n 1)" >"$room/version"
+expect version "$room/version" 0 '' version </dev/null
+expect usage_of_version_of_a_file /dev/null 2 'llhls: usage' version "$first" </dev/null
+expect usage_of_multivariant_alone /dev/null 2 'llhls: usage' multivariant </dev/null
+expect usage_of_multivariant_of_no_rendition /dev/null 2 'llhls: usage' multivariant "$here/check/a_held_request" </dev/null
+expect usage_of_multivariant_without_an_init /dev/null 2 'llhls: usage' multivariant "$here/check/a_held_request" hi </dev/null
+expect read_of_no_record_of_multivariant /dev/null 4 'llhls: Read' multivariant "$room/none" hi=/dev/null </dev/null
+expect read_of_no_init /dev/null 4 'llhls: Read' multivariant "$here/check/a_held_request" "hi=$room/none" </dev/null
+expect multivariant_of_no_rendition_of_the_channel /dev/null 3 'llhls: NoRendition 1' multivariant "$here/check/a_held_request" no=/dev/null </dev/null
+expect multivariant_of_no_section /dev/null 3 'llhls: BadInit 1' multivariant "$here/check/a_held_request" hi=/dev/null </dev/null
 expect usage_of_upgrade_alone /dev/null 2 'llhls: usage' upgrade </dev/null
 expect usage_of_upgrade_of_two_files /dev/null 2 'llhls: usage' upgrade "$first" "$first" </dev/null
 expect read_of_no_record_to_upgrade /dev/null 4 'llhls: Read' upgrade "$room/none" </dev/null

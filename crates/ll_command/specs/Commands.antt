@@ -25,12 +25,19 @@ pub data Call : Type 0 where
   Explain : List ℕ → ℕ → Call
   -- serve the channels of a settings file
   Serve : List ℕ → Call
+  -- write the Multivariant Playlist of the record in a file, with these renditions and files
+  Multivariant : List ℕ → List (List ℕ) → Call
+  -- write the version
+  Version : Call
   -- publish what an encoder writes to standard input: at an address, in a channel and a rendition, by a plan
   Push : List ℕ → List ℕ → List ℕ → Plan → Call
 
 -- the command `name` without a file
 abbrev pub alone : List ℕ → Result Call Fault
-alone name = if bytes_eq name (codes "replay") then Ok Replay else Err Usage
+alone name =
+    if bytes_eq name (codes "replay") then Ok Replay
+    else if bytes_eq name (codes "version") then Ok Version
+    else Err Usage
 
 -- the command `name` with one file
 abbrev pub with_file : List ℕ → List ℕ → Result Call Fault
@@ -126,12 +133,22 @@ push address channel rendition plan =
 abbrev pub with_plan : List ℕ → List ℕ → List ℕ → List ℕ → Option Plan → Result Call Fault
 with_plan name address channel rendition plan = if bytes_eq name (codes "push") then push address channel rendition plan else Err Usage
 
--- the command of all words, the first of which names the program; other words are wrong usage
+-- the command of all words but that of Multivariant Playlists, the first of which names the program; other words are wrong usage
+abbrev pub other_command : List (List ℕ) → Result Call Fault
+other_command (program ∷ name ∷ []) = alone name
+other_command (program ∷ name ∷ file ∷ []) = with_file name file
+other_command (program ∷ name ∷ file ∷ other ∷ []) = with_two name file other
+other_command (program ∷ name ∷ address ∷ channel ∷ rendition ∷ part ∷ segment ∷ words) = with_plan name address channel rendition (plan part segment words)
+other_command other = Err Usage
+
+-- a record, and one or more renditions
+abbrev pub multivariant : List (List ℕ) → Result Call Fault
+multivariant (chunks ∷ source ∷ sources) = Ok (Multivariant chunks (source ∷ sources))
+multivariant other = Err Usage
+
+-- the command of all words, the first of which names the program
 abbrev pub command_of : List (List ℕ) → Result Call Fault
-command_of (program ∷ name ∷ []) = alone name
-command_of (program ∷ name ∷ file ∷ []) = with_file name file
-command_of (program ∷ name ∷ file ∷ other ∷ []) = with_two name file other
-command_of (program ∷ name ∷ address ∷ channel ∷ rendition ∷ part ∷ segment ∷ words) = with_plan name address channel rendition (plan part segment words)
+command_of (program ∷ name ∷ words) = if bytes_eq name (codes "multivariant") then multivariant words else other_command (program ∷ name ∷ words)
 command_of other = Err Usage
 
 abbrev pub call_of : Command → Call
@@ -143,3 +160,5 @@ call_of (command.Summarize chunks) = Summarize chunks.now
 call_of (command.Explain chunks entry) = Explain chunks.now entry
 call_of (command.Serve settings) = Serve settings.now
 call_of (command.Push address channel rendition plan) = Push address.now channel.now rendition.now plan
+call_of (command.Multivariant chunks sources) = Multivariant chunks.now sources.now
+call_of command.Version = Version

@@ -1,3 +1,5 @@
 -- The definitions of this crate: the program's commands and exit statuses.
 pub mod Commands
+pub mod Multivariants
 pub mod Status
+pub mod Version

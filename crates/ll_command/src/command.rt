@@ -35,6 +35,15 @@ pub enum Command<'a> {
     },
     /// `serve`: serves the channels of the settings file of this name.
     Serve(&'a Text),
+    /// `multivariant`: writes the Multivariant Playlist of a channel.
+    Multivariant {
+        /// The name of the record's file.
+        record: &'a Text,
+        /// The names of renditions and of the files of their Media Initialization Sections, joined by `=`: one or more.
+        sources: &'a [Text],
+    },
+    /// `version`: writes the version.
+    Version,
     /// `push`: publishes what an encoder writes to standard input.
     Push {
         /// The address at which the origin listens for publishers.
@@ -52,6 +61,31 @@ impl<'a> Command<'a> {
     /// Parses the program's words, the first of which names the program. Other words are `Usage`.
     pub fn of(words: &'a [Text]) -> Result<Command<'a>, Fault>
         ensures { MatchResult result (λ c. command_of words.now ≡ Ok (call_of c)) (λ f. command_of words.now ≡ Err f) }
+    {
+        match words {
+            [_program, name, words @ ..] if name.as_str() == "multivariant" => {
+                Command::multivariant(words)
+            }
+            _ => Command::other(words),
+        }
+    }
+
+    /// Returns the command that writes the Multivariant Playlist of a record with one or more renditions.
+    fn multivariant(words: &'a [Text]) -> Result<Command<'a>, Fault>
+        ensures { MatchResult result (λ c. spec.multivariant words.now ≡ Ok (call_of c)) (λ f. spec.multivariant words.now ≡ Err f) }
+    {
+        match words {
+            [record, sources @ ..] if !sources.is_empty() => Ok(Command::Multivariant {
+                record,
+                sources,
+            }),
+            _ => Err(Fault::Usage),
+        }
+    }
+
+    /// Returns any other command.
+    fn other(words: &'a [Text]) -> Result<Command<'a>, Fault>
+        ensures { MatchResult result (λ c. spec.other_command words.now ≡ Ok (call_of c)) (λ f. spec.other_command words.now ≡ Err f) }
     {
         match words {
             [_program, name] => Command::alone(name),
@@ -120,6 +154,8 @@ impl<'a> Command<'a> {
     {
         if name.as_str() == "replay" {
             Ok(Command::Replay)
+        } else if name.as_str() == "version" {
+            Ok(Command::Version)
         } else {
             Err(Fault::Usage)
         }

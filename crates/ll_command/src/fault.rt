@@ -37,6 +37,18 @@ pub enum Fault {
     /// A record has no entry of the number that was asked for.
     #[error("NoEntry")]
     NoEntry,
+    /// The number, from 1, of a rendition to be named that the channel doesn't have.
+    #[error("NoRendition {0}")]
+    NoRendition(u64),
+    /// The number, from 1, of a rendition to be named whose Media Initialization Section can't be read.
+    #[error("BadInit {0}")]
+    BadInit(u64),
+    /// The number, from 1, of a rendition to be named that has no finished segment.
+    #[error("NoSegment {0}")]
+    NoSegment(u64),
+    /// A number of a Multivariant Playlist is above 2^64.
+    #[error("TooLarge")]
+    TooLarge,
     /// The program couldn't listen at an address.
     #[error("Listen")]
     Listen,
@@ -59,6 +71,7 @@ impl Fault {
         match self {
             Fault::Usage => 2,
             Fault::BadLine(_) | Fault::NoEntry => 3,
+            Fault::NoRendition(_) | Fault::BadInit(_) | Fault::NoSegment(_) | Fault::TooLarge => 3,
             Fault::Read
             | Fault::Endless
             | Fault::Write

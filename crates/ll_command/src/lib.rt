@@ -3,12 +3,16 @@
 
 mod command;
 mod fault;
+mod multivariant;
 mod plan;
 mod script;
+mod version;
 mod writing;
 
 pub use command::Command;
 pub use fault::{Fault, fault_of};
+pub use multivariant::write_multivariant;
 pub use plan::Plan;
 pub use script::run_script;
+pub use version::write_version;
 pub use writing::{write_applied, write_checked, write_explained, write_summary, write_upgraded};

@@ -115,7 +115,7 @@ pub fn write_summary<W: Write>(alloc: Global, chunks: &[u8], out: &mut W) -> Res
 }
 
 /// Writes the line of a record's check, and returns whether the record is right.
-fn write_answer<W: Write>(
+pub(crate) fn write_answer<W: Write>(
     alloc: Global,
     answer: Result<u64, CheckFault>,
     out: &mut W,
@@ -141,7 +141,7 @@ fn write_answer<W: Write>(
 }
 
 /// Writes `bytes`, and flushes.
-fn write_out<W: Write>(bytes: &[u8], out: &mut W) -> Result<(), Fault>
+pub(crate) fn write_out<W: Write>(bytes: &[u8], out: &mut W) -> Result<(), Fault>
     ensures written { OnOk result (Appends (W.contents out.old) (W.contents out.new) bytes.now) }
     ensures fault { IfErr result (λ f. f ≡ Fault.Write) }
 {

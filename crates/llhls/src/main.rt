@@ -1,17 +1,20 @@
 //! `llhls`, an origin for Low-Latency HLS. `llhls serve SETTINGS` serves publishers and players over TCP; `llhls push ADDRESS CHANNEL
 //! RENDITION part=US segment=US [most=US] [ahead=no] [retry=S] [end]` publishes what an encoder writes; `llhls replay` runs a script;
 //! `llhls check FILE` checks the record of a channel, `llhls upgrade FILE` writes it in format 2, and `llhls explain FILE [ENTRY]`
-//! summarizes it or explains an entry; `llhls apply BASE DELTA` applies a delta update to a playlist.
+//! summarizes it or explains an entry; `llhls multivariant RECORD NAME=INIT ..` writes its Multivariant Playlist; `llhls apply BASE DELTA`
+//! applies a delta update to a playlist; `llhls version` says which version it is.
 #![tactic(auto)]
 
 ghost use Rattle.std.specs.Prelude.{◌≡◌, IfErr};
 ghost use Rattle.ll_replay.specs.declared.outcome.RunFault.{RunFault};
 
 mod calendar;
+mod multivariant;
 mod push;
 mod serve;
 mod words;
 
+use crate::multivariant::multivariant;
 use crate::push::publish;
 use crate::serve::serve;
 use crate::words::words;
@@ -19,7 +22,7 @@ use ll_announce::Names;
 use ll_attr::Text;
 use ll_command::{
     Command, Fault, Plan, fault_of, run_script, write_applied, write_checked, write_explained,
-    write_summary, write_upgraded,
+    write_summary, write_upgraded, write_version,
 };
 use ll_device::{CountedReader, CountedWriter};
 use ll_push::Ending as Published;
@@ -83,6 +86,14 @@ fn called(rt: &HostRuntime) -> Result<Ending, Fault> {
         Command::Upgrade(record) => upgrade(rt, record.as_str()),
         Command::Summarize(record) => summarize(rt, record.as_str()),
         Command::Explain { record, entry } => explain(rt, record.as_str(), entry),
+        Command::Multivariant { record, sources } => {
+            let right = multivariant(rt, record.as_str(), sources)?;
+            Ok(ending_of(right))
+        }
+        Command::Version => {
+            write_version(&mut rt.stdout())?;
+            Ok(Ending::Done)
+        }
         Command::Serve(settings) => Ok(Ending::Serve(read_file(rt, settings.as_str())?)),
         Command::Push {
             address,
@@ -184,7 +195,7 @@ fn replay<L: Ledger, M: Ledger>(rt: &HostRuntime, reads: Blank, writes: Blank) -
 }
 
 /// Returns all bytes of a file.
-fn read_file(rt: &HostRuntime, path: &str) -> Result<Vec<u8>, Fault> {
+pub(crate) fn read_file(rt: &HostRuntime, path: &str) -> Result<Vec<u8>, Fault> {
     match fs::read(rt, path) {
         Ok(bytes) => Ok(bytes),
         Err(error) => Err(fault_of(error.kind(), Fault::Read)),

@@ -1,0 +1,37 @@
+//! Writes the Multivariant Playlist of a channel.
+ghost use Rattle.std.specs.Prelude.{◌≡◌, ◌≢◌, ◌⊎◌, IfErr, IfOk, IsErrOf, List, None, Ok, Err, Some, false, is_ok, true, ℕ};
+ghost use Rattle.std.specs.Io.KnownBytes.{Appends};
+ghost use Rattle.ll_attr.specs.Words.{pieces_at};
+ghost use Rattle.ll_check.specs.Answer as answer;
+ghost use Rattle.ll_command.specs.Multivariants.{IsMultivariant};
+ghost use Rattle.ll_command.specs.Status as spec;
+
+use crate::fault::Fault;
+use crate::writing::{write_answer, write_out};
+use ll_multivariant::{MultivariantFault, Source, multivariant};
+use std::alloc::Global;
+use std::io::Write;
+
+/// Writes the Multivariant Playlist of the channel with the record `chunks`, which names the renditions `sources`; or how the record isn't
+/// right. Returns whether it is right.
+pub fn write_multivariant<W: Write>(
+    alloc: Global,
+    chunks: &[u8],
+    sources: &[Source],
+    out: &mut W,
+) -> Result<bool, Fault>
+    ensures written { IfOk result (λ right. (text : List ℕ) × IsMultivariant chunks.now sources.now right text × Appends (W.contents out.old) (W.contents out.new) text) }
+{
+    match multivariant(alloc, chunks, sources) {
+        Ok(text) => {
+            write_out(text.as_bytes(), out)?;
+            Ok(true)
+        }
+        Err(MultivariantFault::Wrong(fault)) => write_answer(alloc, Err(fault), out),
+        Err(MultivariantFault::NoRendition(number)) => Err(Fault::NoRendition(number)),
+        Err(MultivariantFault::BadInit(number)) => Err(Fault::BadInit(number)),
+        Err(MultivariantFault::NoSegment(number)) => Err(Fault::NoSegment(number)),
+        Err(MultivariantFault::TooLarge) => Err(Fault::TooLarge),
+        Err(MultivariantFault::Memory) => Err(Fault::Memory),
+    }
+}

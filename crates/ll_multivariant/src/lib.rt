@@ -1,0 +1,13 @@
+//! The Multivariant Playlist of a channel, from its record and the Media Initialization Sections of its renditions (section 4.4.6 of
+//! draft-pantos-hls-rfc8216bis).
+#![tactic(auto)]
+
+mod fault;
+mod kept;
+mod naming;
+mod piece;
+mod written;
+
+pub use fault::MultivariantFault;
+pub use naming::Source;
+pub use written::multivariant;

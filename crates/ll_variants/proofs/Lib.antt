@@ -1,0 +1,2 @@
+-- Lemmas of the largest rates.
+mod RateLemmas

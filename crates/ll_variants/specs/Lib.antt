@@ -1,0 +1,5 @@
+-- Definitions of Multivariant Playlists.
+pub mod Lines
+pub mod Playlists
+pub mod Rates
+pub mod Segments

@@ -1,0 +1,80 @@
+//! The finished segments of a rendition, as the sums of what its items add.
+ghost use Rattle.std.specs.Prelude.{◌≡◌, ◌++◌, IfOk, IfSome};
+ghost use Rattle.ll_variants.specs.Segments as spec;
+
+use crate::stream::VariantFault;
+use std::alloc::Global;
+
+/// A number of bytes and a duration.
+#[derive(Clone, Copy, Debug, PartialEq, Eq)]
+pub struct Size {
+    /// The number of bytes.
+    pub bytes: u64,
+    /// The duration in microseconds.
+    pub duration: u64,
+}
+
+/// What an item adds to the segments of its rendition.
+#[derive(Clone, Copy, Debug, PartialEq, Eq)]
+pub struct Piece {
+    /// The index of the rendition in the settings of its channel.
+    pub rendition: usize,
+    /// The size of the part that the item is, or nothing.
+    pub size: Size,
+    /// Whether the item ends an open segment.
+    pub ends: bool,
+}
+
+impl Size {
+    /// Returns no bytes and no duration.
+    pub fn none() -> Size
+        ensures { result ≡ spec.no_size }
+    {
+        Size {
+            bytes: 0,
+            duration: 0,
+        }
+    }
+
+    /// Returns the sum with `other`, or `None` if it is above 2^64.
+    pub(crate) fn plus(self, other: Size) -> Option<Size>
+        ensures { IfSome result (λ sum. sum ≡ spec.plus self other) }
+    {
+        let bytes = self.bytes.checked_add(other.bytes)?;
+        let duration = self.duration.checked_add(other.duration)?;
+        Some(Size { bytes, duration })
+    }
+}
+
+/// Returns the finished segments of the rendition with the index `rendition`, whose items are among `pieces`.
+pub fn finished_segments(
+    alloc: Global,
+    rendition: usize,
+    pieces: &[Piece],
+) -> Result<Vec<Size>, VariantFault>
+    ensures { IfOk result (λ segments. segments.items ≡ spec.segments_of rendition pieces.now) }
+{
+    let mut segments = Vec::new(alloc);
+    let mut sum = Size::none();
+    let mut left = pieces;
+    'pieces: while let Some((piece, more)) = left.split_first() {
+        if piece.rendition == rendition {
+            sum = sum.plus(piece.size).ok_or(VariantFault::TooLarge)?;
+            if is_end(piece, sum) {
+                if segments.push(sum).is_err() {
+                    return Err(VariantFault::Memory);
+                }
+                sum = Size::none();
+            }
+        }
+        left = more;
+    }
+    Ok(segments)
+}
+
+/// Returns whether `piece` ends the open segment, which has the size `sum` with it.
+fn is_end(piece: &Piece, sum: Size) -> bool
+    ensures { result ≡ spec.is_end piece.now sum }
+{
+    piece.ends && 0 < sum.duration
+}
