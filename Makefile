@@ -53,6 +53,7 @@ bench: kit
 	@$(HERE)bench/serve.sh
 	@$(HERE)bench/media.sh
 	@$(HERE)bench/rotate.sh
+	@$(HERE)bench/spool.sh
 	@$(HERE)bench/push.sh
 	@$(HERE)bench/soak.sh
 

@@ -89,11 +89,15 @@ class Room:
             self.processes.append(process)
         return process
 
-    def serve(self, *lines, workers=4, files=None):
-        """Starts a server with these last lines of settings, which can open as many files as others, or `files`. Waits until it has printed its ports."""
+    def serve(self, *lines, workers=4, files=None, ports=(0, 0), blocks=None):
+        """Starts a server with these last lines of settings, at free ports or at these of players and publishers. It can open as many files as others, or `files`; and write files of any
+        size, or of `blocks` KB. Waits until it has printed its ports."""
         settings = self.folder / 'settings'
-        settings.write_text('\n'.join(['listen 127.0.0.1:0', 'publish 127.0.0.1:0', f'workers {workers}', *lines, '']))
+        settings.write_text('\n'.join([f'listen 127.0.0.1:{ports[0]}', f'publish 127.0.0.1:{ports[1]}', f'workers {workers}', *lines, '']))
         limited = [] if files is None else ['bash', '-c', 'ulimit -n "$0" && exec "$@"', str(files)]
+        if blocks is not None:
+            # A file that has grown to the limit is to a server as a disk that is full.
+            limited = ['bash', '-c', 'trap "" XFSZ && ulimit -f "$0" && exec "$@"', str(blocks)]
         process = self.start([*limited, self.program, 'serve', settings])
         for _ in range(400):
             log = pathlib.Path(f'{process.name}.stderr').read_text()

@@ -146,10 +146,19 @@ abbrev pub multivariant : List (List ℕ) → Result Call Fault
 multivariant (chunks ∷ source ∷ sources) = Ok (Multivariant chunks (source ∷ sources))
 multivariant other = Err Usage
 
+-- what follows `multivariant`, if this is the word after the program's name
+abbrev pub after_multivariant : List (List ℕ) → Option (List (List ℕ))
+after_multivariant [] = None
+after_multivariant (program ∷ []) = None
+after_multivariant (program ∷ name ∷ words) = if bytes_eq name (codes "multivariant") then Some words else None
+
+abbrev pub command_by : Option (List (List ℕ)) → List (List ℕ) → Result Call Fault
+command_by (Some more) words = multivariant more
+command_by None words = other_command words
+
 -- the command of all words, the first of which names the program
 abbrev pub command_of : List (List ℕ) → Result Call Fault
-command_of (program ∷ name ∷ words) = if bytes_eq name (codes "multivariant") then multivariant words else other_command (program ∷ name ∷ words)
-command_of other = Err Usage
+command_of words = command_by (after_multivariant words) words
 
 abbrev pub call_of : Command → Call
 call_of command.Replay = Replay

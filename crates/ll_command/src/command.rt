@@ -1,5 +1,5 @@
 //! Parses the program's words as a command.
-ghost use Rattle.std.specs.Prelude.{◌≡◌, MatchResult, Ok, Err};
+ghost use Rattle.std.specs.Prelude.{◌≡◌, MatchOption, MatchResult, None, Some, Ok, Err};
 ghost use Rattle.ll_command.specs.Commands as spec;
 ghost use Rattle.ll_command.specs.Commands.{call_of, command_of};
 
@@ -62,11 +62,9 @@ impl<'a> Command<'a> {
     pub fn of(words: &'a [Text]) -> Result<Command<'a>, Fault>
         ensures { MatchResult result (λ c. command_of words.now ≡ Ok (call_of c)) (λ f. command_of words.now ≡ Err f) }
     {
-        match words {
-            [_program, name, words @ ..] if name.as_str() == "multivariant" => {
-                Command::multivariant(words)
-            }
-            _ => Command::other(words),
+        match after_multivariant(words) {
+            Some(more) => Command::multivariant(more),
+            None => Command::other(words),
         }
     }
 
@@ -198,5 +196,21 @@ impl<'a> Command<'a> {
             }),
             None => Err(Fault::Usage),
         }
+    }
+}
+
+/// Returns what follows `multivariant`, if this is the word after the program's name.
+fn after_multivariant(words: &[Text]) -> Option<&[Text]>
+    ensures { MatchOption result (spec.after_multivariant words.now ≡ None) (λ more. spec.after_multivariant words.now ≡ Some more.now) }
+{
+    match words {
+        [_program, name, more @ ..] => {
+            if name.as_str() == "multivariant" {
+                Some(more)
+            } else {
+                None
+            }
+        }
+        _ => None,
     }
 }

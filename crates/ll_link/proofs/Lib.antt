@@ -1,5 +1,6 @@
 pub mod AnswerLemmas
 pub mod FaultLemmas
+pub mod KeptLemmas
 pub mod ReadLemmas
 pub mod SendLemmas
 pub mod ServingLemmas

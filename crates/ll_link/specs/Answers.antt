@@ -146,6 +146,7 @@ IsPlaceAsked channels passed says.MediaTooLong s = ⊥
 -- the answer to a line that isn't refused: the number of its item, or the place that it asks for
 abbrev pub IsSuccess : List Configuration → List ℕ → says.Line → Success → Type 0
 IsSuccess channels passed line (success.Accepted count) = (mark : StampedValue ℕ) × (mark.value ≡ count) × IsAnnounced channels passed line mark
+IsSuccess channels passed line (success.NotKept count) = (mark : StampedValue ℕ) × (mark.value ≡ count) × IsAnnounced channels passed line mark
 IsSuccess channels passed line (success.Standing s) = IsPlaceAsked channels passed line s
 
 -- why a line is refused; a question for a place only for what is found before any room is asked

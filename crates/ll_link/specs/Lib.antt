@@ -3,6 +3,7 @@ pub mod Answers
 pub mod Connections
 pub mod Faults
 pub mod Heard
+pub mod Kept
 pub mod Publishing
 pub mod Reads
 pub mod Sending

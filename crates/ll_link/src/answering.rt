@@ -27,10 +27,11 @@ pub(crate) fn go_on<
     C: Clock,
     G: Gate,
     K: Sink,
+    D,
     B: Bell,
     R: Wait,
 >(
-    service: &Service<'a, L, C, G, K, B, R>,
+    service: &Service<'a, L, C, G, K, D, B, R>,
     mode: &M,
     link: &mut P,
     pass: &mut Pass<L>,
@@ -60,8 +61,8 @@ pub(crate) fn go_on<
 
 /// Takes the next request of `session`, and puts out its answer, after those of requests before it that are refused. Returns the request if
 /// it is held; if too many bytes came after it, closes it: the session has shut.
-fn answer_next<'a, L: Ledgers, C: Clock, G: Gate, K: Sink, B: Bell, R: Wait>(
-    service: &Service<'a, L, C, G, K, B, R>,
+fn answer_next<'a, L: Ledgers, C: Clock, G: Gate, K: Sink, D, B: Bell, R: Wait>(
+    service: &Service<'a, L, C, G, K, D, B, R>,
     pass: &mut Pass<L>,
     session: &mut Session,
 ) -> Result<Option<Held<'a, L, G, R>>, LinkFault>

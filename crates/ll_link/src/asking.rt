@@ -23,8 +23,8 @@ type Told = Result<HubAsked, AskFault>;
 
 /// Makes the request `want`, and returns its answer, or the request if it is held. If the record of its channel is full, hands that out and
 /// makes the request once more.
-pub(crate) fn ask<'a, L: Ledgers, C: Clock, G: Gate, K: Sink, B: Bell, R: Wait>(
-    service: &Service<'a, L, C, G, K, B, R>,
+pub(crate) fn ask<'a, L: Ledgers, C: Clock, G: Gate, K: Sink, D, B: Bell, R: Wait>(
+    service: &Service<'a, L, C, G, K, D, B, R>,
     pass: &mut Pass<L>,
     want: Want,
 ) -> Waiting<'a, L, G, R>
@@ -53,8 +53,8 @@ pub(crate) fn ask<'a, L: Ledgers, C: Clock, G: Gate, K: Sink, B: Bell, R: Wait>(
 
 /// Makes the request `want` of the channel at place `channel`. If the record of the channel is full, hands that out and makes the request
 /// `again`, a copy of `want`. Returns what the hub makes of the last one, and whether the record was handed out.
-fn ask_in<L: Ledgers, C: Clock, G: Gate, K: Sink, B: Bell, R: Wait>(
-    service: &Service<'_, L, C, G, K, B, R>,
+fn ask_in<L: Ledgers, C: Clock, G: Gate, K: Sink, D, B: Bell, R: Wait>(
+    service: &Service<'_, L, C, G, K, D, B, R>,
     pass: &mut Pass<L>,
     channel: usize,
     want: Want,
@@ -76,8 +76,8 @@ fn ask_in<L: Ledgers, C: Clock, G: Gate, K: Sink, B: Bell, R: Wait>(
 }
 
 /// Makes the request `want` of the channel at place `channel`.
-fn ask_once<L: Ledgers, C: Clock, G, K, B: Bell, R: Wait>(
-    service: &Service<'_, L, C, G, K, B, R>,
+fn ask_once<L: Ledgers, C: Clock, G, K, D, B: Bell, R: Wait>(
+    service: &Service<'_, L, C, G, K, D, B, R>,
     pass: &mut Pass<L>,
     channel: usize,
     want: Want,

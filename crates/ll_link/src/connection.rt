@@ -117,9 +117,9 @@ impl<'a, L: Ledgers, P: TryLink, G: Gate, R: Wait> Connection<'a, L, P, G, R> {
     }
 
     /// Reads once, and answers the whole requests that came. Does nothing while a request is held or an answer is left to be sent.
-    pub fn readable<C: Clock, K: Sink, B: Bell>(
+    pub fn readable<C: Clock, K: Sink, D, B: Bell>(
         &mut self,
-        service: &Service<'a, L, C, G, K, B, R>,
+        service: &Service<'a, L, C, G, K, D, B, R>,
         pass: &mut Pass<L>,
     ) -> Result<Step, LinkFault>
         ensures faults { IsTrue result self.old.failures self.new.failures }
@@ -140,9 +140,9 @@ impl<'a, L: Ledgers, P: TryLink, G: Gate, R: Wait> Connection<'a, L, P, G, R> {
     }
 
     /// Sends what is left of its answers, as far as the link takes them, and then answers the whole requests that came.
-    pub fn writable<C: Clock, K: Sink, B: Bell>(
+    pub fn writable<C: Clock, K: Sink, D, B: Bell>(
         &mut self,
-        service: &Service<'a, L, C, G, K, B, R>,
+        service: &Service<'a, L, C, G, K, D, B, R>,
         pass: &mut Pass<L>,
     ) -> Result<Step, LinkFault>
         ensures faults { IsTrue result self.old.failures self.new.failures }
@@ -167,9 +167,9 @@ impl<'a, L: Ledgers, P: TryLink, G: Gate, R: Wait> Connection<'a, L, P, G, R> {
     }
 
     /// Collects the reply to its request that is held, if it is there; then answers that, and the whole requests that came after it.
-    pub fn ready<C: Clock, K: Sink, B: Bell>(
+    pub fn ready<C: Clock, K: Sink, D, B: Bell>(
         &mut self,
-        service: &Service<'a, L, C, G, K, B, R>,
+        service: &Service<'a, L, C, G, K, D, B, R>,
         pass: &mut Pass<L>,
     ) -> Result<Step, LinkFault>
         ensures faults { IsTrue result self.old.failures self.new.failures }
@@ -205,9 +205,9 @@ impl<'a, L: Ledgers, P: TryLink, G: Gate, R: Wait> Connection<'a, L, P, G, R> {
     }
 
     /// Answers the whole requests that came, as far as the link takes the answers, up to one that is held.
-    fn answer<C: Clock, K: Sink, B: Bell>(
+    fn answer<C: Clock, K: Sink, D, B: Bell>(
         &mut self,
-        service: &Service<'a, L, C, G, K, B, R>,
+        service: &Service<'a, L, C, G, K, D, B, R>,
         pass: &mut Pass<L>,
     ) -> Result<(), LinkFault>
         ensures faults { IsTrue result self.old.failures self.new.failures }

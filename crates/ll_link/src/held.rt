@@ -40,8 +40,8 @@ impl<L: Ledgers, G: Gate, R: Wait> Drop for Held<'_, L, G, R> {
 
 impl<'a, L: Ledgers, G: Gate, R: Wait> Held<'a, L, G, R> {
     /// Returns the held request that `claim` stands for.
-    pub(crate) fn new<C, K, B>(
-        service: &Service<'a, L, C, G, K, B, R>,
+    pub(crate) fn new<C, K, D, B>(
+        service: &Service<'a, L, C, G, K, D, B, R>,
         claim: Claim,
     ) -> Held<'a, L, G, R>
         ensures claim { result.claim ≡ claim }

@@ -6,6 +6,7 @@ mod asking;
 mod connection;
 mod fault;
 mod held;
+mod keeping;
 mod mode;
 mod player;
 mod publisher;

@@ -31,10 +31,11 @@ pub(crate) fn serve<
     C: Clock,
     G: Gate,
     K: Sink,
+    D,
     B: Bell,
     R: Wait + time::Clock,
 >(
-    service: &Service<'_, L, C, G, K, B, R>,
+    service: &Service<'_, L, C, G, K, D, B, R>,
     link: &mut P,
     pass: &mut Pass<L>,
     reads: u64,
@@ -50,8 +51,8 @@ pub(crate) fn serve<
 }
 
 /// Reads and answers until either side ends the connection, and returns the number of answers. Fails after `reads` reads.
-fn converse<L: Ledgers, P: Link, C: Clock, G: Gate, K: Sink, B: Bell, R: Wait + time::Clock>(
-    service: &Service<'_, L, C, G, K, B, R>,
+fn converse<L: Ledgers, P: Link, C: Clock, G: Gate, K: Sink, D, B: Bell, R: Wait + time::Clock>(
+    service: &Service<'_, L, C, G, K, D, B, R>,
     link: &mut P,
     pass: &mut Pass<L>,
     session: &mut Session,
@@ -72,8 +73,8 @@ fn converse<L: Ledgers, P: Link, C: Clock, G: Gate, K: Sink, B: Bell, R: Wait + 
 }
 
 /// Reads once, and answers all whole requests that came. Returns whether the connection stays: false if either side has ended it.
-fn turn<L: Ledgers, P: Link, C: Clock, G: Gate, K: Sink, B: Bell, R: Wait + time::Clock>(
-    service: &Service<'_, L, C, G, K, B, R>,
+fn turn<L: Ledgers, P: Link, C: Clock, G: Gate, K: Sink, D, B: Bell, R: Wait + time::Clock>(
+    service: &Service<'_, L, C, G, K, D, B, R>,
     link: &mut P,
     pass: &mut Pass<L>,
     session: &mut Session,
@@ -114,8 +115,8 @@ fn receive<P: Link>(link: &mut P, session: &mut Session) -> Result<bool, LinkFau
 }
 
 /// Answers all whole requests that came. Returns whether the player stays: false if it hung up while one was held.
-fn answer<L: Ledgers, P: Link, C: Clock, G: Gate, K: Sink, B: Bell, R: Wait + time::Clock>(
-    service: &Service<'_, L, C, G, K, B, R>,
+fn answer<L: Ledgers, P: Link, C: Clock, G: Gate, K: Sink, D, B: Bell, R: Wait + time::Clock>(
+    service: &Service<'_, L, C, G, K, D, B, R>,
     link: &mut P,
     pass: &mut Pass<L>,
     session: &mut Session,
@@ -140,8 +141,8 @@ fn answer<L: Ledgers, P: Link, C: Clock, G: Gate, K: Sink, B: Bell, R: Wait + ti
 }
 
 /// Waits for the answer to a held request. If its player hangs up, closes it and returns `None`.
-fn wait<'a, L: Ledgers, P: Link, C, G: Gate, K, B, R: Wait + time::Clock>(
-    service: &Service<'a, L, C, G, K, B, R>,
+fn wait<'a, L: Ledgers, P: Link, C, G: Gate, K, D, B, R: Wait + time::Clock>(
+    service: &Service<'a, L, C, G, K, D, B, R>,
     link: &mut P,
     pass: &mut Pass<L>,
     held: Held<'a, L, G, R>,

@@ -1,9 +1,10 @@
 //! A publisher's connection: its lines are read, and what they announce is published and answered.
 ghost use Rattle.std.specs.Bool.{Decides};
-ghost use Rattle.std.specs.Prelude.{◌≡◌, ◌≢◌, ℕ, Err, IfErr, IfOk, IsErrOf, List, MatchResult, None, Ok, OnErr, OnOk, Option, Some, slice_get};
+ghost use Rattle.std.specs.Prelude.{◌≡◌, ◌≢◌, ℕ, Err, IfErr, IfOk, IsErrOf, List, MatchResult, None, Ok, OnErr, OnOk, Option, Some, length, nat_le, slice_get, true};
 ghost use Rattle.std.specs.Io.KnownBytes.{Appends};
 ghost use Rattle.ll_device.specs.Written.{AppendsPrefix};
 ghost use Rattle.ll_item.specs.Items.{item_in};
+ghost use Rattle.ll_item.specs.Media.{media_limit};
 ghost use Rattle.ll_publish.specs.Line as says;
 ghost use Rattle.ll_publish.specs.Meaning.{meant};
 ghost use Rattle.ll_publish.specs.Refusals.{item_refusal, reply_line};
@@ -12,26 +13,22 @@ ghost use Rattle.ll_link.specs.Answers.{IsAnswerAt, IsAnswerIn, refused_by, refu
 ghost use Rattle.ll_hub.specs.Passes.{PassValue};
 ghost use Rattle.ll_link.specs.Faults.{IsOwn, IsTrue};
 ghost use Rattle.ll_link.specs.Heard.{heard, heard_at, heard_in, unstamped};
+ghost use Rattle.ll_link.specs.Kept.{HasToken};
 ghost use Rattle.ll_link.specs.Publishing.{IsCutOff, IsReplyTo, IsServed};
 ghost use Rattle.ll_link.specs.Reads.{IsReadThrough, IsReadWithin};
 ghost use Rattle.ll_link.specs.Serving.{IsBroken, IsDrained, IsServing};
 
 use crate::fault::LinkFault;
+use crate::keeping::{Kept, Published, Told, settle, settle_in};
 use crate::service::{HandedOut, Service};
 use ll_device::{Link, write_all};
 use ll_hub::{Bell, HubFault, Ledgers, Pass, RoomFault, Sink};
 use ll_item::{Item, ItemFault, Payload, Settings};
 use ll_publish::{Feed, Line, Refusal, Success, reply_text};
-use ll_room::Stamped;
 use ll_server::Gate;
+use ll_spool::Disk;
 use ll_verdict::PublishFault;
 use std::sync::Wait;
-
-/// The answer to an item: how many items its channel has accepted with it, or why it is refused.
-type Published = Result<Stamped<u64>, Refusal>;
-
-/// The answer to a publisher's line.
-type Told = Result<Success, Refusal>;
 
 /// The most bytes that one read takes.
 const PIECE: usize = 65_536;
@@ -39,8 +36,8 @@ const PIECE: usize = 65_536;
 /// Publishes what a publisher's lines announce, answers each line, and returns the number of answers. Fails after `reads` reads.
 // Not inlined, so that a thread that serves a player has no room for this buffer on its stack.
 #[inline(never)]
-pub(crate) fn serve<L: Ledgers, P: Link, C, G: Gate, K: Sink, B: Bell, R: Wait>(
-    service: &Service<'_, L, C, G, K, B, R>,
+pub(crate) fn serve<L: Ledgers, P: Link, C, G: Gate, K: Sink, D: Disk, B: Bell, R: Wait>(
+    service: &Service<'_, L, C, G, K, D, B, R>,
     link: &mut P,
     pass: &mut Pass<L>,
     reads: u64,
@@ -68,8 +65,8 @@ pub(crate) fn serve<L: Ledgers, P: Link, C, G: Gate, K: Sink, B: Bell, R: Wait>(
 }
 
 /// Answers all whole lines of `feed`, and adds their number to `answers`.
-fn answer<L: Ledgers, P: Link, C, G: Gate, K: Sink, B: Bell, R: Wait>(
-    service: &Service<'_, L, C, G, K, B, R>,
+fn answer<L: Ledgers, P: Link, C, G: Gate, K: Sink, D: Disk, B: Bell, R: Wait>(
+    service: &Service<'_, L, C, G, K, D, B, R>,
     link: &mut P,
     pass: &mut Pass<L>,
     feed: &mut Feed,
@@ -87,30 +84,22 @@ fn answer<L: Ledgers, P: Link, C, G: Gate, K: Sink, B: Bell, R: Wait>(
         let Some(line) = feed.next() else {
             return Ok(());
         };
-        let reply = publish(service, pass, line)?;
+        let (reply, kept) = publish(service, pass, line)?;
         *answers = answers.saturating_add(1);
         service.gate.pass(*answers);
-        tell(service, link, &reply)?;
+        tell(service, link, &reply, kept)?;
     }
     unreachable!()
 }
 
-/// Returns `answer` without its stamp.
-fn without_stamp(answer: Published) -> Told
-    ensures { result ≡ unstamped answer }
-{
-    match answer {
-        Ok(count) => Ok(Success::Accepted(count.into_inner())),
-        Err(reason) => Err(reason),
-    }
-}
-
-/// Sends `reply` as the line that answers a publisher's.
-fn tell<L: Ledgers, P: Link, C, G, K, B, R>(
-    service: &Service<'_, L, C, G, K, B, R>,
+/// Sends `reply` as the line that answers a publisher's. If it accepts an item, `kept` is the token of that.
+fn tell<L: Ledgers, P: Link, C, G, K, D, B, R>(
+    service: &Service<'_, L, C, G, K, D, B, R>,
     link: &mut P,
     reply: &Told,
+    kept: Option<Kept>,
 ) -> Result<(), LinkFault>
+    requires kept { HasToken reply.now kept }
     ensures faults { IsTrue result (P.failures link.old) (P.failures link.new) }
     ensures unread { P.inward link.new ≡ P.inward link.old }
     ensures other { IfErr result (λ fault. fault ≢ LinkFault.Endless) }
@@ -125,29 +114,30 @@ fn tell<L: Ledgers, P: Link, C, G, K, B, R>(
 }
 
 /// Publishes the item that `line` announces, or looks up the place that it asks for, and returns the answer to the line.
-fn publish<L: Ledgers, C, G: Gate, K: Sink, B: Bell, R: Wait>(
-    service: &Service<'_, L, C, G, K, B, R>,
+fn publish<L: Ledgers, C, G: Gate, K: Sink, D: Disk, B: Bell, R: Wait>(
+    service: &Service<'_, L, C, G, K, D, B, R>,
     pass: &mut Pass<L>,
     line: Line<'_>,
-) -> Result<Told, LinkFault>
+) -> Result<(Told, Option<Kept>), LinkFault>
     ensures own { IsOwn result }
-    ensures right { IfOk result (IsReplyTo service.now.hub.now pass.old (meant line.entry)) }
-    ensures passed { IfOk result (λ told. pass.new ≡ heard service.now.hub.now (meant line.entry) told pass.old) }
+    ensures right { IfOk result (λ told. IsReplyTo service.now.hub.now pass.old (meant line.entry) told.0) }
+    ensures passed { IfOk result (λ told. pass.new ≡ heard service.now.hub.now (meant line.entry) told.0 pass.old) }
+    ensures kept { IfOk result (λ told. HasToken told.0 told.1) }
     ensures unchanged { OnErr result (pass.new ≡ pass.old) }
 {
     match line {
         Line::Item(name, text, bytes) => publish_bytes(service, pass, name, text, bytes),
-        Line::At(name, rendition) => place(service, pass, name, rendition),
-        Line::Bad => Ok(Err(Refusal::BadLine)),
-        Line::TooLong => Ok(Err(Refusal::LineTooLong)),
-        Line::MediaTooLong => Ok(Err(Refusal::MediaTooLong)),
+        Line::At(name, rendition) => Ok((place(service, pass, name, rendition)?, None)),
+        Line::Bad => Ok((Err(Refusal::BadLine), None)),
+        Line::TooLong => Ok((Err(Refusal::LineTooLong), None)),
+        Line::MediaTooLong => Ok((Err(Refusal::MediaTooLong), None)),
     }
 }
 
 /// Returns where the rendition named `rendition` of the channel named `name` stands, or why the line is refused.
 #[tactic(auto, using(crate::proofs::AnswerLemmas::place_found, crate::proofs::AnswerLemmas::place_refused))]
-fn place<L: Ledgers, C, G, K, B, R: Wait>(
-    service: &Service<'_, L, C, G, K, B, R>,
+fn place<L: Ledgers, C, G, K, D, B, R: Wait>(
+    service: &Service<'_, L, C, G, K, D, B, R>,
     pass: &mut Pass<L>,
     name: &str,
     rendition: &str,
@@ -170,29 +160,54 @@ fn place<L: Ledgers, C, G, K, B, R: Wait>(
 }
 
 /// Publishes the item that is spelled `text` and has the media `bytes`, in the channel named `name`, unless these are more than an item may
-/// have. Returns the answer to its line.
-#[tactic(auto, using(crate::proofs::AnswerLemmas::item_reply))]
-fn publish_bytes<L: Ledgers, C, G: Gate, K: Sink, B: Bell, R: Wait>(
-    service: &Service<'_, L, C, G, K, B, R>,
+/// have, and keeps it. Returns the answer to its line.
+fn publish_bytes<L: Ledgers, C, G: Gate, K: Sink, D: Disk, B: Bell, R: Wait>(
+    service: &Service<'_, L, C, G, K, D, B, R>,
     pass: &mut Pass<L>,
     name: &str,
     text: &str,
     bytes: &[u8],
-) -> Result<Told, LinkFault>
+) -> Result<(Told, Option<Kept>), LinkFault>
     ensures own { IsOwn result }
-    ensures right { IfOk result (IsReplyTo service.now.hub.now pass.old (says.Item name.now text.now bytes.now)) }
-    ensures passed { IfOk result (λ told. pass.new ≡ heard_in (channel_of_name service.now.hub.now 0 name.now) told pass.old) }
+    ensures right { IfOk result (λ told. IsReplyTo service.now.hub.now pass.old (says.Item name.now text.now bytes.now) told.0) }
+    ensures passed { IfOk result (λ told. pass.new ≡ heard_in (channel_of_name service.now.hub.now 0 name.now) told.0 pass.old) }
+    ensures kept { IfOk result (λ told. HasToken told.0 told.1) }
     ensures unchanged { OnErr result (pass.new ≡ pass.old) }
 {
     match Payload::of_bytes(bytes) {
-        Some(payload) => Ok(without_stamp(publish_item(service, pass, name, text, &payload)?)),
-        None => Ok(Err(Refusal::MediaTooLong)),
+        Some(payload) => publish_and_keep(service, pass, name, text, &payload),
+        None => Ok((Err(Refusal::MediaTooLong), None)),
+    }
+}
+
+/// Publishes the item that is spelled `text` and has the media `payload`, in the channel named `name`, and keeps it. Returns the answer to
+/// its line.
+#[tactic(auto, using(crate::proofs::KeptLemmas::settled_reply, crate::proofs::KeptLemmas::settled_heard))]
+fn publish_and_keep<L: Ledgers, C, G: Gate, K: Sink, D: Disk, B: Bell, R: Wait>(
+    service: &Service<'_, L, C, G, K, D, B, R>,
+    pass: &mut Pass<L>,
+    name: &str,
+    text: &str,
+    payload: &Payload<'_>,
+) -> Result<(Told, Option<Kept>), LinkFault>
+    requires small { nat_le (length payload.now) media_limit ≡ true }
+    ensures own { IsOwn result }
+    ensures right { IfOk result (λ told. IsReplyTo service.now.hub.now pass.old (says.Item name.now text.now payload.now) told.0) }
+    ensures passed { IfOk result (λ told. pass.new ≡ heard_in (channel_of_name service.now.hub.now 0 name.now) told.0 pass.old) }
+    ensures kept { IfOk result (λ told. HasToken told.0 told.1) }
+    ensures unchanged { OnErr result (pass.new ≡ pass.old) }
+{
+    let turn = service.turn(name);
+    let answer = publish_item(service, pass, name, text, payload)?;
+    match turn {
+        Some(mut spool) => Ok(settle_in(&mut *spool, answer)),
+        None => Ok(settle(answer)),
     }
 }
 
 /// Publishes the item that is spelled `text` and has the media `payload`, in the channel named `name`, and returns the answer.
-fn publish_item<L: Ledgers, C, G: Gate, K: Sink, B: Bell, R: Wait>(
-    service: &Service<'_, L, C, G, K, B, R>,
+fn publish_item<L: Ledgers, C, G: Gate, K: Sink, D, B: Bell, R: Wait>(
+    service: &Service<'_, L, C, G, K, D, B, R>,
     pass: &mut Pass<L>,
     name: &str,
     text: &str,
@@ -218,8 +233,8 @@ fn publish_item<L: Ledgers, C, G: Gate, K: Sink, B: Bell, R: Wait>(
 
 /// Publishes the item that is spelled `text` and has the media `payload`, in the channel at place `channel`. If the record of the channel
 /// is full, hands that out and publishes the item once more. Returns the last answer, and whether the record was handed out.
-fn publish_to<L: Ledgers, C, G: Gate, K: Sink, B: Bell, R: Wait>(
-    service: &Service<'_, L, C, G, K, B, R>,
+fn publish_to<L: Ledgers, C, G: Gate, K: Sink, D, B: Bell, R: Wait>(
+    service: &Service<'_, L, C, G, K, D, B, R>,
     pass: &mut Pass<L>,
     channel: usize,
     settings: &Settings,
@@ -240,8 +255,8 @@ fn publish_to<L: Ledgers, C, G: Gate, K: Sink, B: Bell, R: Wait>(
 
 /// Returns `first`, the answer to an item, unless it says that the record of the channel is full; then hands that out, and publishes the
 /// item again. `before` is the pass before the first answer.
-fn publish_again<L: Ledgers, C, G: Gate, K: Sink, B: Bell, R: Wait>(
-    service: &Service<'_, L, C, G, K, B, R>,
+fn publish_again<L: Ledgers, C, G: Gate, K: Sink, D, B: Bell, R: Wait>(
+    service: &Service<'_, L, C, G, K, D, B, R>,
     pass: &mut Pass<L>,
     channel: usize,
     settings: &Settings,
@@ -286,8 +301,8 @@ fn is_full(answer: &Published) -> bool
 }
 
 /// Publishes the item that is spelled `text` and has the media `payload`, in the channel at place `channel`, and returns the answer.
-fn publish_once<L: Ledgers, C, G, K, B: Bell, R: Wait>(
-    service: &Service<'_, L, C, G, K, B, R>,
+fn publish_once<L: Ledgers, C, G, K, D, B: Bell, R: Wait>(
+    service: &Service<'_, L, C, G, K, D, B, R>,
     pass: &mut Pass<L>,
     channel: usize,
     settings: &Settings,

@@ -10,6 +10,7 @@ use crate::{player, publisher};
 use ll_device::{Link, Role};
 use ll_hub::{Bell, Clock, Ledgers, Pass, Sink};
 use ll_server::Gate;
+use ll_spool::Disk;
 use std::sync::Wait;
 use std::time;
 
@@ -19,8 +20,17 @@ const READS: u64 = 1 << 32;
 /// Serves one connection to its end, and returns how many answers it got, or why it was ended. Each line of a publisher is answered by one
 /// line, in their order. A player that hangs up while its request is held has ended its connection; the request is closed. If the record of
 /// a channel is full, it goes to the sink, and the call that found it full is made once more.
-pub fn serve_link<L: Ledgers, P: Link, C: Clock, G: Gate, K: Sink, B: Bell, R: Wait + time::Clock>(
-    service: &Service<'_, L, C, G, K, B, R>,
+pub fn serve_link<
+    L: Ledgers,
+    P: Link,
+    C: Clock,
+    G: Gate,
+    K: Sink,
+    D: Disk,
+    B: Bell,
+    R: Wait + time::Clock,
+>(
+    service: &Service<'_, L, C, G, K, D, B, R>,
     role: Role,
     link: &mut P,
     pass: &mut Pass<L>,
@@ -41,10 +51,11 @@ pub fn serve_link_within<
     C: Clock,
     G: Gate,
     K: Sink,
+    D: Disk,
     B: Bell,
     R: Wait + time::Clock,
 >(
-    service: &Service<'_, L, C, G, K, B, R>,
+    service: &Service<'_, L, C, G, K, D, B, R>,
     role: Role,
     link: &mut P,
     pass: &mut Pass<L>,

@@ -5,13 +5,14 @@ ghost use Rattle.ll_link.specs.Faults.{IsOwn};
 use crate::fault::LinkFault;
 use ll_hub::{Hub, Ledgers, Sink};
 use ll_server::Gate;
+use ll_spool::Spool;
 use std::alloc::Global;
 use std::marker::Model;
-use std::sync::Wait;
+use std::sync::{Mutex, MutexGuard, Wait};
 
 /// What connections are served with. All connections of a hub share it.
 #[derive(Drop)]
-pub struct Service<'a, L: Ledgers, C, G, K, B, R> {
+pub struct Service<'a, L: Ledgers, C, G, K, D, B, R> {
     /// The runtime.
     pub rt: &'a R,
     /// The allocator of what connections keep.
@@ -26,6 +27,8 @@ pub struct Service<'a, L: Ledgers, C, G, K, B, R> {
     pub bell: &'a B,
     /// The channels.
     pub hub: &'a Hub<L>,
+    /// The channels' spools, in their order, or none if no items are kept.
+    pub spools: &'a [Mutex<Spool<D>>],
 }
 
 /// A token: the record of the channel at place `channel` was handed out. Only [`Service::hand_out`] makes one.
@@ -42,7 +45,7 @@ impl Model for HandedOut {
     ghost view = { λ h. h.channel };
 }
 
-impl<L: Ledgers, C, G: Gate, K: Sink, B, R: Wait> Service<'_, L, C, G, K, B, R> {
+impl<L: Ledgers, C, G: Gate, K: Sink, D, B, R: Wait> Service<'_, L, C, G, K, D, B, R> {
     /// Hands the full record of the channel at place `channel` to the sink.
     pub(crate) fn hand_out(&self, channel: usize) -> Result<HandedOut, LinkFault>
         ensures own { IsOwn result }
@@ -54,5 +57,15 @@ impl<L: Ledgers, C, G: Gate, K: Sink, B, R: Wait> Service<'_, L, C, G, K, B, R> 
             Ok(()) => Ok(HandedOut { channel }),
             Err(_) => Err(LinkFault::Hub),
         }
+    }
+}
+
+impl<L: Ledgers, C, G, K, D, B, R: Wait> Service<'_, L, C, G, K, D, B, R> {
+    /// Takes the turn to publish in the channel named `name`, if it has a spool. Who has the turn takes the channel's lock after it, so
+    /// items are kept in the order in which they are accepted; players never take it.
+    pub(crate) fn turn(&self, name: &str) -> Option<MutexGuard<'_, Spool<D>>> {
+        let (channel, _) = self.hub.find(name)?;
+        let spool = self.spools.get(channel)?;
+        Some(spool.lock(self.rt))
     }
 }

@@ -47,6 +47,13 @@ impl<T> Stamped<T> {
         &self.value
     }
 
+    /// Returns the event that the value comes from.
+    pub fn stamp(&self) -> &Stamp
+        ensures { result.now ≡ self.now.stamp }
+    {
+        &self.stamp
+    }
+
     /// Returns the value, without its stamp.
     pub fn into_inner(self) -> T
         ensures { result ≡ self.value }

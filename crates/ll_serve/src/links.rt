@@ -8,6 +8,7 @@ use crossbeam_channel::{Receiver, Sender};
 use ll_device::{CountedLink, Link, Role, Source};
 use ll_hub::{Bell, Clock, Hub, HubFault, Ledgers, Pass, Sink};
 use ll_link::{Gate, Service, serve_link};
+use ll_spool::Disk;
 use std::alloc::Global;
 use std::marker::Brand;
 use std::slice::IterMut;
@@ -35,10 +36,11 @@ pub fn serve_links<
     C: Clock + Sync,
     G: Gate + Sync,
     K: Sink + Sync,
+    D: Disk + Send,
     B: Bell + Sync,
     R: Threads + Wait + time::Clock + Sync,
 >(
-    service: &Service<'_, L, C, G, K, B, R>,
+    service: &Service<'_, L, C, G, K, D, B, R>,
     role: Role,
     source: &mut S,
     workers: usize,
@@ -108,15 +110,15 @@ fn one_more<L: Ledgers, R: Wait>(
 
 /// What the workers of a source share.
 #[derive(Drop)]
-struct Shift<'a, L: Ledgers, P: Drop, C, G, K, B, R> {
-    service: &'a Service<'a, L, C, G, K, B, R>,
+struct Shift<'a, L: Ledgers, P: Drop, C, G, K, D, B, R> {
+    service: &'a Service<'a, L, C, G, K, D, B, R>,
     role: Role,
     links: Receiver<P>,
     /// The number of connections that were handed out and aren't served to their end.
     open: AtomicU64,
 }
 
-impl<L: Ledgers, P: Link, C, G, K, B, R: Wait> Shift<'_, L, P, C, G, K, B, R> {
+impl<L: Ledgers, P: Link, C, G, K, D, B, R: Wait> Shift<'_, L, P, C, G, K, D, B, R> {
     /// Returns whether each of `started` workers has a connection to serve, or one that waits for it.
     fn is_busy(&self, started: u64) -> bool {
         self.open.load(Ordering::SeqCst) >= started
@@ -141,10 +143,11 @@ fn share_out<
     C: Clock + Sync,
     G: Gate + Sync,
     K: Sink + Sync,
+    D: Disk + Send,
     B: Bell + Sync,
     R: Threads + Wait + time::Clock + Sync,
 >(
-    shift: &Shift<'_, L, S::Peer, C, G, K, B, R>,
+    shift: &Shift<'_, L, S::Peer, C, G, K, D, B, R>,
     to: Sender<S::Peer>,
     source: &mut S,
     given: Vec<Pass<L>>,
@@ -167,10 +170,11 @@ fn feed<
     C: Clock + Sync,
     G: Gate + Sync,
     K: Sink + Sync,
+    D: Disk + Send,
     B: Bell + Sync,
     R: Threads + Wait + time::Clock + Sync,
 >(
-    shift: &Shift<'_, L, S::Peer, C, G, K, B, R>,
+    shift: &Shift<'_, L, S::Peer, C, G, K, D, B, R>,
     to: Sender<S::Peer>,
     source: &mut S,
     seats: &Mutex<IterMut<'_, Pass<L>>>,
@@ -201,8 +205,8 @@ fn feed<
 
 /// Takes a pass, and serves one connection after another, until no more come.
 // It takes its pass itself: one that was moved into the closure of a thread would be lost if the thread isn't started.
-fn work<L: Ledgers, P: Link, C: Clock, G: Gate, K: Sink, B: Bell, R: Wait + time::Clock>(
-    shift: &Shift<'_, L, P, C, G, K, B, R>,
+fn work<L: Ledgers, P: Link, C: Clock, G: Gate, K: Sink, D: Disk, B: Bell, R: Wait + time::Clock>(
+    shift: &Shift<'_, L, P, C, G, K, D, B, R>,
     seats: &Mutex<IterMut<'_, Pass<L>>>,
 ) {
     let seat = seats.lock(shift.service.rt).next();
@@ -213,7 +217,7 @@ fn work<L: Ledgers, P: Link, C: Clock, G: Gate, K: Sink, B: Bell, R: Wait + time
         let Ok(link) = shift.links.recv(shift.service.rt) else {
             return;
         };
-        serve_counted::<L, Brand, P, C, G, K, B, R>(shift, link, pass, Blank::new(2));
+        serve_counted::<L, Brand, P, C, G, K, D, B, R>(shift, link, pass, Blank::new(2));
         shift.open.fetch_sub(1, Ordering::SeqCst);
     }
     unreachable!()
@@ -229,9 +233,10 @@ fn serve_counted<
     C: Clock,
     G: Gate,
     K: Sink,
+    D: Disk,
     B: Bell,
     R: Wait + time::Clock,
->(shift: &Shift<'_, L, P, C, G, K, B, R>, link: P, pass: &mut Pass<L>, blank: Blank)
+>(shift: &Shift<'_, L, P, C, G, K, D, B, R>, link: P, pass: &mut Pass<L>, blank: Blank)
     requires name { blank.name ≡ M.name }
     requires parts { blank.parts ≡ M.parts }
     requires two { blank.parts ≡ 2 }

@@ -39,10 +39,11 @@ pub fn serve_players<
     C: Clock + Sync,
     G: Gate + Sync,
     K: Sink + Sync,
+    D: Send,
     B: Bell + Sync,
     R: Threads + Wait + time::Clock + Sync,
 >(
-    service: &Service<'_, L, C, G, K, B, R>,
+    service: &Service<'_, L, C, G, K, D, B, R>,
     source: &mut S,
     bells: &Bells,
     idle: u64,
@@ -78,8 +79,8 @@ fn inboxes_of<P: Drop>(alloc: Global, count: usize) -> Result<Vec<Mutex<Vec<P>>>
 
 /// What the pollers share.
 #[derive(Drop)]
-struct Hall<'a, L: Ledgers, P: TryLink, C, G, K, B, R> {
-    service: &'a Service<'a, L, C, G, K, B, R>,
+struct Hall<'a, L: Ledgers, P: TryLink, C, G, K, D, B, R> {
+    service: &'a Service<'a, L, C, G, K, D, B, R>,
     bells: &'a Bells,
     /// For each poller, the connections that it has not taken in yet.
     inboxes: Vec<Mutex<Vec<P>>>,
@@ -90,7 +91,7 @@ struct Hall<'a, L: Ledgers, P: TryLink, C, G, K, B, R> {
     idle: u64,
 }
 
-impl<L: Ledgers, P: TryLink, C, G, K, B, R: Wait> Hall<'_, L, P, C, G, K, B, R> {
+impl<L: Ledgers, P: TryLink, C, G, K, D, B, R: Wait> Hall<'_, L, P, C, G, K, D, B, R> {
     /// Hands `link`, which came after `came` others, to one of the `started` pollers. Closes it if there is none, or if out of memory.
     fn hand_over(&self, link: P, came: usize, started: usize) {
         let Some(number) = came.checked_rem(started) else {
@@ -117,9 +118,10 @@ fn share_out<
     C: Clock + Sync,
     G: Gate + Sync,
     K: Sink + Sync,
+    D: Send,
     B: Bell + Sync,
     R: Threads + Wait + time::Clock + Sync,
->(hall: &Hall<'_, L, P, C, G, K, B, R>, source: &mut S, given: Vec<Pass<L>>) -> Vec<Pass<L>>
+>(hall: &Hall<'_, L, P, C, G, K, D, B, R>, source: &mut S, given: Vec<Pass<L>>) -> Vec<Pass<L>>
     ensures { length result.items ≡ length given.items }
 {
     let mut passes = given;
@@ -138,10 +140,11 @@ fn admit<
     C: Clock + Sync,
     G: Gate + Sync,
     K: Sink + Sync,
+    D: Send,
     B: Bell + Sync,
     R: Threads + Wait + time::Clock + Sync,
 >(
-    hall: &Hall<'_, L, P, C, G, K, B, R>,
+    hall: &Hall<'_, L, P, C, G, K, D, B, R>,
     source: &mut S,
     seats: &Mutex<IterMut<'_, Pass<L>>>,
     pollers: usize,
@@ -175,8 +178,8 @@ fn admit<
 
 /// Takes a pass and the next bell, and serves the connections that come to its poller.
 // It takes its pass itself: one that was moved into the closure of a thread would be lost if the thread isn't started.
-fn work<L: Ledgers, P: TryLink, C: Clock, G: Gate, K: Sink, B: Bell, R: Wait + time::Clock>(
-    hall: &Hall<'_, L, P, C, G, K, B, R>,
+fn work<L: Ledgers, P: TryLink, C: Clock, G: Gate, K: Sink, D, B: Bell, R: Wait + time::Clock>(
+    hall: &Hall<'_, L, P, C, G, K, D, B, R>,
     seats: &Mutex<IterMut<'_, Pass<L>>>,
 ) {
     let rt = hall.service.rt;

@@ -20,8 +20,8 @@ const BATCH: usize = 64;
 
 /// The players of one thread, and what is to be done for them.
 #[derive(Drop)]
-pub(crate) struct Poller<'a, L: Ledgers, P: TryLink, C, G: Gate, K, B, R: Wait> {
-    service: &'a Service<'a, L, C, G, K, B, R>,
+pub(crate) struct Poller<'a, L: Ledgers, P: TryLink, C, G: Gate, K, D, B, R: Wait> {
+    service: &'a Service<'a, L, C, G, K, D, B, R>,
     bell: &'a PollerBell,
     poll: Poll,
     /// The players, by their keys.
@@ -39,23 +39,24 @@ pub(crate) struct Poller<'a, L: Ledgers, P: TryLink, C, G: Gate, K, B, R: Wait> 
     seconds: u64,
 }
 
-impl<'a, L: Ledgers, P: TryLink, C: Clock, G: Gate, K: Sink, B: Bell, R: Wait + time::Clock> Poller<
+impl<
     'a,
-    L,
-    P,
-    C,
-    G,
-    K,
-    B,
-    R,
-> {
+    L: Ledgers,
+    P: TryLink,
+    C: Clock,
+    G: Gate,
+    K: Sink,
+    D,
+    B: Bell,
+    R: Wait + time::Clock,
+> Poller<'a, L, P, C, G, K, D, B, R> {
     /// Returns a poller without players, which `bell` wakes. It closes players that are idle for more than `idle` seconds.
     pub(crate) fn new(
-        service: &'a Service<'a, L, C, G, K, B, R>,
+        service: &'a Service<'a, L, C, G, K, D, B, R>,
         bell: &'a PollerBell,
         poll: Poll,
         idle: u64,
-    ) -> Poller<'a, L, P, C, G, K, B, R> {
+    ) -> Poller<'a, L, P, C, G, K, D, B, R> {
         let alloc = service.alloc;
         Poller {
             service,

@@ -3,7 +3,7 @@ ghost use Rattle.std.specs.Prelude.{◌≡◌};
 
 use crate::hubs::{SEGMENT, Silent, Stopped, add_one, finished_with, hub_of_one, published, seat};
 use crate::rows::{Row, number, same, same_number};
-use crate::wires::{ANSWER, GET, LINE, Open, SOUND, Wire, text_of};
+use crate::wires::{ANSWER, GET, LINE, Open, SOUND, Wire, no_spools, text_of};
 use ll_check::check;
 use ll_hub::{Blanks, Hub, Ledgers, Pass, Sink};
 use ll_record::Chunk;
@@ -87,6 +87,7 @@ fn serve_one<L: Ledgers, R: Wait + Clock + Abort>(
         sink: &sink,
         bell: &Silent,
         hub,
+        spools: no_spools(),
     };
     let _ = serve_link(&service, role, &mut wire, pass);
     same(rt, "the answer", text_of(&wire.into_sent()), answer);

@@ -4,7 +4,7 @@ ghost use Rattle.std.specs.Prelude.{◌≡◌};
 use crate::hubs::{SEGMENT, Silent, Waiting, comes_to, finished, hub_of_one, published, seat};
 use crate::link_tests::{Served, name};
 use crate::rows::{push, same, same_number};
-use crate::wires::{ANSWER, Dropped, GET, GET_FIRST, Open, Plan, SOUND, Wire, text_of};
+use crate::wires::{ANSWER, Dropped, GET, GET_FIRST, Open, Plan, SOUND, Wire, no_spools, text_of};
 use ll_hub::{Blanks, Hub, Ledgers, Pass};
 use ll_serve::{LinkFault, Role, Service, serve_link};
 use std::alloc::Global;
@@ -135,6 +135,7 @@ fn serve_beside<'a, L: Ledgers + Send + Sync, R: Threads + Wait + time::Clock + 
         sink: &Dropped,
         bell: &Silent,
         hub,
+        spools: no_spools(),
     };
     thread::join(
         rt,

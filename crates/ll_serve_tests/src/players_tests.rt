@@ -4,7 +4,7 @@ ghost use Rattle.std.specs.Prelude.{◌≡◌};
 use crate::hubs::{SEGMENT, Stopped, finished, hub_of_one, published, published_rung, seat};
 use crate::rows::{same, same_number};
 use crate::socket_tests::{Few, check_exchange, connect, exchange};
-use crate::wires::{ANSWER, Dropped, GET, Open, text_of};
+use crate::wires::{ANSWER, Dropped, GET, Open, no_spools, text_of};
 use ll_hub::{Blanks, Hub, Ledgers, Pass};
 use ll_serve::{Bells, Role, Service, serve_players};
 use std::alloc::Global;
@@ -112,6 +112,7 @@ fn admit<
         sink: &Dropped,
         bell: &bells,
         hub,
+        spools: no_spools(),
     };
     match serve_players(&service, listener, bells, idle) {
         Ok(passes) => passes,

@@ -9,7 +9,7 @@ use crate::hubs::{
 use crate::link_tests::{Served, name};
 use crate::media_tests::{GETS, LINES};
 use crate::rows::{Row, push, same};
-use crate::wires::{Dropped, GET, Open, Plan, SOUND, Wire, service, text_of};
+use crate::wires::{Dropped, GET, NoFiles, Open, Plan, SOUND, Wire, no_spools, service, text_of};
 use ll_hub::{Blanks, Hub, Ledgers, Pass};
 use ll_link::{Connection, Step};
 use ll_serve::{LinkFault, Role, Service, serve_link};
@@ -23,7 +23,7 @@ use std::thread::Threads;
 use std::{mem, thread, time};
 
 /// What connections are served with in steps.
-type Room<'a, L, R> = Service<'a, L, Stopped, Counting, Dropped, Silent, R>;
+type Room<'a, L, R> = Service<'a, L, Stopped, Counting, Dropped, NoFiles, Silent, R>;
 
 /// A connection that is served in steps.
 type Player<'a, 'b, L, R> = Connection<'a, L, Halting<'b, R>, Counting, R>;
@@ -101,6 +101,7 @@ fn serve_beside<'a, L: Ledgers + Send + Sync, R: Threads + Wait + time::Clock + 
         sink: &Dropped,
         bell: &Silent,
         hub,
+        spools: no_spools(),
     };
     thread::join(
         rt,
@@ -214,6 +215,7 @@ fn serve_in_steps<'a, L: Ledgers, R: Wait + time::Clock + Abort>(
         sink: &Dropped,
         bell: &Silent,
         hub: &hub,
+        spools: no_spools(),
     };
     let link = Halting {
         wire: Wire::new(alloc, bytes, steps.plan),
@@ -440,6 +442,7 @@ fn leave<L: Ledgers, R: Wait + Abort>(
         sink: &Dropped,
         bell: &Silent,
         hub,
+        spools: no_spools(),
     };
     let tape = Tape::new(rt, alloc);
     let link = Halting {

@@ -6,8 +6,10 @@ use ll_device::{Failed, Writer};
 use ll_hub::{Hub, Ledgers, Sink};
 use ll_record::Chunk;
 use ll_serve::{Gate, Link, Service};
+use ll_spool::{Disk, Lost, Place, Side, Spool};
 use std::alloc::{AllocError, Global};
 use std::str;
+use std::sync::Mutex;
 
 /// A publisher's line: a segment of one part.
 pub(crate) const LINE: &[u8] = b"cam part hi 1000000 if\n";
@@ -51,12 +53,45 @@ impl Sink for Dropped {
     fn take(&mut self, _channel: usize, _chunk: Chunk) {}
 }
 
+/// The files of a spool that doesn't exist: the hubs here have none.
+#[derive(Drop)]
+pub(crate) struct NoFiles;
+
+impl Disk for NoFiles {
+    ghost lines = { λ _. None };
+
+    fn append_line(&mut self, _text: &[u8]) -> Result<(), Lost> {
+        Err(Lost)
+    }
+
+    fn append(&mut self, _side: Side, _bytes: &[u8]) -> Result<(), Lost> {
+        Err(Lost)
+    }
+
+    fn clear(&mut self, _side: Side) -> Result<(), Lost> {
+        Err(Lost)
+    }
+
+    fn cut(&mut self, _text: u64, _a: u64, _b: u64) -> Result<(), Lost> {
+        Err(Lost)
+    }
+
+    fn read(&mut self, _place: Place, _bytes: &mut [u8]) -> bool {
+        false
+    }
+}
+
+/// Returns no spools.
+pub(crate) fn no_spools<'a>() -> &'a [Mutex<Spool<NoFiles>>] {
+    &[]
+}
+
 /// Returns a service of `hub` whose clock shows 0, whose gate is open, whose sink drops its chunks, and whose bell nobody hears.
 pub(crate) fn service<'a, L: Ledgers, R>(
     rt: &'a R,
     alloc: Global,
     hub: &'a Hub<L>,
-) -> Service<'a, L, Stopped, Open, Dropped, Silent, R>
+) -> Service<'a, L, Stopped, Open, Dropped, NoFiles, Silent, R>
     ensures { result.hub.now ≡ hub.now }
 {
     Service {
@@ -67,6 +102,7 @@ pub(crate) fn service<'a, L: Ledgers, R>(
         sink: &Dropped,
         bell: &Silent,
         hub,
+        spools: no_spools(),
     }
 }
 

@@ -5,7 +5,7 @@ use crate::hubs::{
     SEGMENT, Silent, Stopped, add_one, comes_to, finished, hub_of_one, published, seat,
 };
 use crate::rows::{same, same_number};
-use crate::wires::{ANSWER, Dropped, GET, Open, text_of};
+use crate::wires::{ANSWER, Dropped, GET, Open, no_spools, text_of};
 use ll_device::{Failed, Writer};
 use ll_hub::{Blanks, Hub, Ledgers, Pass};
 use ll_serve::{Gate, Link, Role, Service, Source, serve_links};
@@ -164,6 +164,7 @@ fn serve_boxes<L: Ledgers + Send + Sync, G: Gate + Sync, R: Threads + Wait + Clo
         sink: &Dropped,
         bell: &Silent,
         hub,
+        spools: no_spools(),
     };
     match serve_links(&service, Role::Player, &mut peers, workers) {
         Ok(passes) => passes,

@@ -130,13 +130,16 @@ channels-least n before (line ∷ rest) number here =
 -- ---- the whole
 
 -- the settings, part by part
-abbrev pub with_channels : SocketAddrV4 → SocketAddrV4 → ℕ → Option (List ℕ) → Option (List ℕ) → Left → Result ConfigValue ℕ
-with_channels a b w r l left =
+abbrev pub with_channels : SocketAddrV4 → SocketAddrV4 → ℕ → Option (List ℕ) → Option (List ℕ) → Option (List ℕ) → Left → Result ConfigValue ℕ
+with_channels a b w r l s left =
     and_then (channels_from [] left.lines left.number)
-    (λ cs. Ok (record { players = a; publishers = b; workers = w; record_path = r; log_path = l; channels = cs }))
+    (λ cs. Ok (record { players = a; publishers = b; workers = w; record_path = r; log_path = l; spool_path = s; channels = cs }))
+
+abbrev pub with_spool : SocketAddrV4 → SocketAddrV4 → ℕ → Option (List ℕ) → Option (List ℕ) → Left → Result ConfigValue ℕ
+with_spool a b w r l left = and_then (next_path (codes "spool ") left) (λ s. with_channels a b w r l s.0 s.1)
 
 abbrev pub with_log : SocketAddrV4 → SocketAddrV4 → ℕ → Option (List ℕ) → Left → Result ConfigValue ℕ
-with_log a b w r left = and_then (next_path (codes "log ") left) (λ l. with_channels a b w r l.0 l.1)
+with_log a b w r left = and_then (next_path (codes "log ") left) (λ l. with_spool a b w r l.0 l.1)
 
 abbrev pub with_records : SocketAddrV4 → SocketAddrV4 → ℕ → Left → Result ConfigValue ℕ
 with_records a b w left = and_then (next_path (codes "record ") left) (λ r. with_log a b w r.0 r.1)
@@ -149,15 +152,20 @@ with_publishers a left = and_then (next (address_line (codes "publish ")) left) 
 
 -- ---- out of memory
 
-channels-least-in : (n : ℕ) (a b : SocketAddrV4) (w : ℕ) (r l : Option (List ℕ)) (five : Left) → n ≤ five.number → Least n (with_channels a b w r l five)
-channels-least-in n a b w r l five here =
-    least-value n (channels_from [] five.lines five.number)
-    (λ cs. record { players = a; publishers = b; workers = w; record_path = r; log_path = l; channels = cs }) (channels-least n [] five.lines five.number here)
+channels-least-in : (n : ℕ) (a b : SocketAddrV4) (w : ℕ) (r l s : Option (List ℕ)) (six : Left) → n ≤ six.number → Least n (with_channels a b w r l s six)
+channels-least-in n a b w r l s six here =
+    least-value n (channels_from [] six.lines six.number)
+    (λ cs. record { players = a; publishers = b; workers = w; record_path = r; log_path = l; spool_path = s; channels = cs }) (channels-least n [] six.lines six.number here)
+
+spool-least : (n : ℕ) (a b : SocketAddrV4) (w : ℕ) (r l : Option (List ℕ)) (five : Left) → n ≤ five.number → Least n (with_spool a b w r l five)
+spool-least n a b w r l five here =
+    least-then n (next_path (codes "spool ") five) (λ s. with_channels a b w r l s.0 s.1) (path-leads n (codes "spool ") five here)
+    (λ x there. channels-least-in n a b w r l x.0 x.1 there)
 
 log-least : (n : ℕ) (a b : SocketAddrV4) (w : ℕ) (r : Option (List ℕ)) (four : Left) → n ≤ four.number → Least n (with_log a b w r four)
 log-least n a b w r four here =
-    least-then n (next_path (codes "log ") four) (λ l. with_channels a b w r l.0 l.1) (path-leads n (codes "log ") four here)
-    (λ x there. channels-least-in n a b w r x.0 x.1 there)
+    least-then n (next_path (codes "log ") four) (λ l. with_spool a b w r l.0 l.1) (path-leads n (codes "log ") four here)
+    (λ x there. spool-least n a b w r x.0 x.1 there)
 
 later : {A : Type 0} (r : Result A ℕ) → Least 5 r → IfErr r (λ line. 4 < line)
 later (Ok value) h = tt
@@ -169,9 +177,14 @@ records-lacks a b w number (Ok x) from past = log-least 5 a b w x.0 x.1 (omega (
 records-lacks a b w number (Err bad) from past = absurd past
 
 log-lacks : (a b : SocketAddrV4) (w number : ℕ) (r : Option (List ℕ)) (l : Result (Option (List ℕ) × Left) ℕ) → 4 ≤ number → LeadsPast number l
-    → Least 5 (and_then l (λ l. with_channels a b w r l.0 l.1))
-log-lacks a b w number r (Ok x) from past = channels-least-in 5 a b w r x.0 x.1 (omega (arith, from, past))
+    → Least 5 (and_then l (λ l. with_spool a b w r l.0 l.1))
+log-lacks a b w number r (Ok x) from past = spool-least 5 a b w r x.0 x.1 (omega (arith, from, past))
 log-lacks a b w number r (Err bad) from past = absurd past
+
+spool-lacks : (a b : SocketAddrV4) (w number : ℕ) (r l : Option (List ℕ)) (s : Result (Option (List ℕ) × Left) ℕ) → 4 ≤ number → LeadsPast number s
+    → Least 5 (and_then s (λ s. with_channels a b w r l s.0 s.1))
+spool-lacks a b w number r l (Ok x) from past = channels-least-in 5 a b w r l x.0 x.1 (omega (arith, from, past))
+spool-lacks a b w number r l (Err bad) from past = absurd past
 
 channels-lack : (number : ℕ) (cs : Result (List Configuration) ℕ) (f : List Configuration → ConfigValue) → 4 ≤ number → IsRightTo number cs
     → Least 5 (and_then cs (λ cs. Ok (f cs)))
@@ -219,3 +232,12 @@ module _ {A : Type 0} (r : Result A ConfigFault) (fault : ConfigFault) (is : IsE
       let read = next_path (codes "log ") four in
       later (config_in bytes) (subst (Least 5) (sym (head.told ∙ ap (λ r. and_then r (λ r. with_log a b w r.0 r.1)) past))
       (log-lacks a b w four.number p read (omega (arith, head.number, n)) (wanting-of r fault read (LeadsPast four.number read) is wants told)))
+
+  pub spool-memory : (bytes : List ℕ) (a b : SocketAddrV4) (w : ℕ) (p q : Option (List ℕ)) (three four five : Left) → Head bytes a b w three
+      → next_path (codes "record ") three ≡ Ok (p, four) → three.number ≤ four.number → next_path (codes "log ") four ≡ Ok (q, five) → four.number ≤ five.number
+      → IsFault fault (next_path (codes "spool ") five) (LeadsPast five.number (next_path (codes "spool ") five)) → IfErr (config_in bytes) (λ line. 4 < line)
+  spool-memory bytes a b w p q three four five head past n further m told =
+      let read = next_path (codes "spool ") five in
+      later (config_in bytes) (subst (Least 5) (sym (head.told ∙ ap (λ r. and_then r (λ r. with_log a b w r.0 r.1)) past
+      ∙ ap (λ l. and_then l (λ l. with_spool a b w p l.0 l.1)) further))
+      (spool-lacks a b w five.number p q read (omega (arith, head.number, n, m)) (wanting-of r fault read (LeadsPast five.number read) is wants told)))

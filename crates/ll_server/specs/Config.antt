@@ -21,6 +21,8 @@ pub record ConfigValue : Type 0 where
   pub record_path : Option (List ℕ)
   -- the file that each channel's numbers go to
   pub log_path : Option (List ℕ)
+  -- the directory of the channels' spools
+  pub spool_path : Option (List ℕ)
   pub channels : List Configuration
 
 -- ---- the lines of a file
@@ -130,8 +132,8 @@ channels_from before [] number = if length before == 0 then Err number else Ok b
 channels_from before (line ∷ rest) number =
     channel_then number (if is_utf8 line then channel_line before line else None) (λ c. channels_from (before ++ c ∷ []) rest (number + 1))
 
--- The settings of the lines that are left: `listen` and an address, `publish` and an address, `workers` and a number, `record` and `log` with
--- a path, both optional, and channels. Or the number of the first line that isn't allowed in its place.
+-- The settings of the lines that are left: `listen` and an address, `publish` and an address, `workers` and a number, `record`, `log` and
+-- `spool` with a path, each of them optional, and channels. Or the number of the first line that isn't allowed in its place.
 abbrev pub config_from : Left → Result ConfigValue ℕ
 config_from left = do
   players ← next (address_line (codes "listen ")) left
@@ -139,8 +141,17 @@ config_from left = do
   workers ← next workers_line publishers.1
   records ← next_path (codes "record ") workers.1
   log ← next_path (codes "log ") records.1
-  channels ← channels_from [] log.1.lines log.1.number
-  Ok (record { players = players.0; publishers = publishers.0; workers = workers.0; record_path = records.0; log_path = log.0; channels = channels })
+  spool ← next_path (codes "spool ") log.1
+  channels ← channels_from [] spool.1.lines spool.1.number
+  Ok (record {
+    players = players.0;
+    publishers = publishers.0;
+    workers = workers.0;
+    record_path = records.0;
+    log_path = log.0;
+    spool_path = spool.0;
+    channels = channels;
+  })
 
 -- the settings of a file, or the number of its first line that isn't allowed in its place
 abbrev pub config_in : List ℕ → Result ConfigValue ℕ

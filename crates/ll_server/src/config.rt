@@ -31,6 +31,8 @@ pub struct Config {
     pub record: Option<Text>,
     /// `log PATH`, which is optional: the file that each channel's numbers go to.
     pub log: Option<Text>,
+    /// `spool DIRECTORY`, which is optional: the directory of the channels' spools.
+    pub spool: Option<Text>,
     /// The settings lines of 1 to 1,024 channels with distinct names.
     pub channels: Vec<Settings>,
     ghost some_channel: { 1 ≤ vec_len channels },
@@ -60,6 +62,7 @@ impl Config {
           workers = c.workers.count;
           record_path = c.record;
           log_path = c.log;
+          spool_path = c.spool;
           channels = c.channels.items;
         })) }
         ensures refused { (line : ℕ) → IsErrOf result (ConfigFault.BadLine line) → config_in bytes.now ≡ Err line }
@@ -71,6 +74,7 @@ impl Config {
         let workers = read_workers(&mut lines)?;
         let record = read_path(alloc, &mut lines, "record ")?;
         let log = read_path(alloc, &mut lines, "log ")?;
+        let spool = read_path(alloc, &mut lines, "spool ")?;
         let channels = read_channels(alloc, &mut lines)?;
         Ok(Config {
             players,
@@ -78,6 +82,7 @@ impl Config {
             workers,
             record,
             log,
+            spool,
             channels,
         })
     }

@@ -1,4 +1,4 @@
-//! What an operator gives a server and gets from it: its settings file, the files of its channels' records and numbers, and what is
+//! What an operator gives a server and gets from it: its settings file, the files of its channels' records, spools and numbers, and what is
 //! counted of each channel for these numbers. No contract speaks of the numbers.
 #![tactic(auto)]
 
@@ -12,6 +12,7 @@ mod log;
 mod numbers;
 mod queue;
 mod records;
+mod spool_files;
 
 pub use config::{CHANNELS, Config, Workers};
 pub use fault::ConfigFault;
@@ -19,3 +20,4 @@ pub use gate::Gate;
 pub use log::Log;
 pub use numbers::Numbers;
 pub use records::Records;
+pub use spool_files::{SpoolFiles, Unusable};

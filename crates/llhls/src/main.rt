@@ -11,12 +11,15 @@ ghost use Rattle.ll_replay.specs.declared.outcome.RunFault.{RunFault};
 mod calendar;
 mod multivariant;
 mod push;
+mod restoring;
 mod serve;
+mod stop;
 mod words;
 
 use crate::multivariant::multivariant;
 use crate::push::publish;
 use crate::serve::serve;
+use crate::stop::Stop;
 use crate::words::words;
 use ll_announce::Names;
 use ll_attr::Text;
@@ -43,7 +46,8 @@ fn main(rt: HostRuntime) -> ExitCode {
         }
         Ok(Ending::Serve(settings)) => match serve(&rt, rt.alloc(), &settings) {
             Ok(()) => Ok(ExitCode::SUCCESS),
-            Err(fault) => Err(fault),
+            Err(Stop::Fault(fault)) => Err(fault),
+            Err(Stop::Spool(status)) => Ok(ExitCode::from(status)),
         },
         Err(fault) => Err(fault),
     };

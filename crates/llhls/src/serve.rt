@@ -2,13 +2,18 @@
 ghost use denote.Param.Send.{IsSend};
 ghost use Rattle.std.specs.Prelude.{◌≡◌, ◌≤◌, ◌^◌, length};
 
+use crate::restoring::{Spools, push, restore_all};
+use crate::stop::Stop;
 use ll_command::Fault;
 use ll_device::Listener;
 use ll_format::UtcTime;
 use ll_hub::{Bell, Blanks, Clock, Hub, HubFault, Ledgers, Pass, Sink};
 use ll_item::Settings;
 use ll_serve::{Bells, Gate, Role, Service, serve_links, serve_players};
-use ll_server::{CHANNELS, Config, ConfigFault, Log, Numbers, Records, Workers};
+use ll_server::{
+    CHANNELS, Config, ConfigFault, Log, Numbers, Records, SpoolFiles, Unusable, Workers,
+};
+use ll_spool::Disk;
 use std::alloc::{AllocError, Global};
 use std::fs::File;
 use std::marker::Brand;
@@ -63,7 +68,8 @@ struct Server<'a, R> {
     workers: Workers,
 }
 
-/// Serves players and publishers of the channels of the settings file `settings`, until it is stopped.
+/// Serves players and publishers of the channels of the settings file `settings`, until it is stopped. If their items are kept, first
+/// publishes those that were.
 pub(crate) fn serve<
     R: Net<Listener = TcpListener, Stream = TcpStream>
         + Files<File = File>
@@ -72,20 +78,19 @@ pub(crate) fn serve<
         + Threads
         + Wait
         + Sync,
->(rt: &R, alloc: Global, settings: &[u8]) -> Result<(), Fault> {
+>(rt: &R, alloc: Global, settings: &[u8]) -> Result<(), Stop> {
     let config = read_config(alloc, settings)?;
-    let mut players = open_listener(rt, config.players, Role::Player)?;
-    let mut publishers = open_listener(rt, config.publishers, Role::Publisher)?;
+    let files = open_spools(rt, alloc, &config)?;
     let server = open_server(rt, alloc, &config)?;
     let ((), done) = thread::join(
         rt,
         || server.records.write_on(),
-        || serve_channels(&server, config, &mut players, &mut publishers),
+        || serve_channels(&server, config, files),
     );
     done
 }
 
-/// Serves the channels of `config` to those who connect at the two listeners. Then ends the queue of the records.
+/// Serves the channels of `config`, whose spools have the files `files`. Then ends the queue of the records.
 fn serve_channels<
     R: Net<Listener = TcpListener, Stream = TcpStream>
         + Eprint
@@ -93,15 +98,31 @@ fn serve_channels<
         + Threads
         + Wait
         + Sync,
->(
-    server: &Server<'_, R>,
-    config: Config,
-    players: &mut Listener<'_, R>,
-    publishers: &mut Listener<'_, R>,
-) -> Result<(), Fault> {
-    let done = host::<Brand, R>(server, config.channels, Blanks::new(), players, publishers);
+>(server: &Server<'_, R>, config: Config, files: Vec<SpoolFiles<'_, R>>) -> Result<(), Stop> {
+    let addresses = (config.players, config.publishers);
+    let done = host::<Brand, R>(server, config.channels, Blanks::new(), addresses, files);
     server.records.end();
     done
+}
+
+/// Opens the files of the channels' spools, if items are kept.
+fn open_spools<'a, R: Files<File = File> + Eprint>(
+    rt: &'a R,
+    alloc: Global,
+    config: &Config,
+) -> Result<Vec<SpoolFiles<'a, R>>, Stop> {
+    let mut files = Vec::new(alloc);
+    let Some(directory) = &config.spool else {
+        return Ok(files);
+    };
+    for settings in &config.channels {
+        match SpoolFiles::open(rt, alloc, directory, settings.channel()) {
+            Ok(Ok(opened)) => push(&mut files, opened)?,
+            Ok(Err(Unusable)) => return Err(Stop::Spool(4)),
+            Err(AllocError) => return Err(Stop::Fault(Fault::Memory)),
+        }
+    }
+    Ok(files)
 }
 
 /// Reads a settings file.
@@ -158,7 +179,41 @@ fn server_from<'a, R: Files<File = File> + Eprint>(
     })
 }
 
-/// Serves `channels` to those who connect at the two listeners.
+/// What a server has once its ports are open.
+#[derive(Drop)]
+struct Opened<'a, L: Ledgers, R> {
+    spools: Spools<'a, R>,
+    /// The pass with which the spools' items were published.
+    pass: Pass<L>,
+    players: Listener<'a, R>,
+    publishers: Listener<'a, R>,
+}
+
+/// Publishes the items of the spools whose files are `files`, and then opens the ports of players and publishers at `addresses`, and says
+/// on standard error where they are.
+fn open<'a, L: Ledgers, R: Net<Listener = TcpListener, Stream = TcpStream> + Eprint + Wait>(
+    server: &'a Server<'_, R>,
+    hub: &'a Hub<L>,
+    addresses: (SocketAddrV4, SocketAddrV4),
+    files: Vec<SpoolFiles<'a, R>>,
+) -> Result<Opened<'a, L, R>, Stop> {
+    let (spools, pass) = restore_all(server.rt, server.alloc, hub, &server.records, files)?;
+    let players = open_listener(server.rt, addresses.0, Role::Player)?;
+    let publishers = open_listener(server.rt, addresses.1, Role::Publisher)?;
+    let (Ok(asked), Ok(told)) = (players.address(), publishers.address()) else {
+        return Err(Stop::Fault(Fault::Listen));
+    };
+    let _ = eprintln!(server.rt; "llhls: players on {asked}");
+    let _ = eprintln!(server.rt; "llhls: publishers on {told}");
+    Ok(Opened {
+        spools,
+        pass,
+        players,
+        publishers,
+    })
+}
+
+/// Serves `channels` to those who connect at `addresses`, once the items of the spools whose files are `files` are published.
 fn host<
     L: Ledgers + Send + Sync,
     R: Net<Listener = TcpListener, Stream = TcpStream>
@@ -171,45 +226,30 @@ fn host<
     server: &Server<'_, R>,
     channels: Vec<Settings>,
     blanks: Blanks,
-    players: &mut Listener<'_, R>,
-    publishers: &mut Listener<'_, R>,
-) -> Result<(), Fault>
+    addresses: (SocketAddrV4, SocketAddrV4),
+    files: Vec<SpoolFiles<'_, R>>,
+) -> Result<(), Stop>
     requires some { 1 ≤ length channels.items }
     requires most { length channels.items ≤ 1024 }
     requires names { blanks ≡ L.names }
     requires channels { L.channels ≡ length channels.items }
 {
-    let (Ok(asked), Ok(told)) = (players.address(), publishers.address()) else {
-        return Err(Fault::Listen);
-    };
     let pollers = pollers(server.rt, server.workers);
     let Ok(bells) = Bells::new(server.rt, server.alloc, pollers, channels.len()) else {
-        return Err(Fault::Memory);
+        return Err(Stop::Fault(Fault::Memory));
     };
     let Ok(hub) = Hub::<L>::new(server.alloc, channels, blanks) else {
-        return Err(Fault::Memory);
+        return Err(Stop::Fault(Fault::Memory));
     };
-    let _ = eprintln!(server.rt; "llhls: players on {asked}");
-    let _ = eprintln!(server.rt; "llhls: publishers on {told}");
-    let service = Service {
-        rt: server.rt,
-        alloc: server.alloc,
-        clock: &server.watch,
-        gate: &server.numbers,
-        sink: &&server.records,
-        bell: &&bells,
-        hub: &hub,
-    };
-    let (served, fed) = server.work(&service, players, publishers, &bells);
-    let (mut passes, served) = served;
-    let (more, fed) = fed;
-    let mut all = served.is_none() && fed.is_none();
-    for pass in more {
-        all &= passes.push(pass).is_ok();
-    }
-    match hub.finish(passes) {
-        Ok(_) if all => Ok(()),
-        _ => Err(Fault::Memory),
+    match (&*server).host_on(&hub, &bells, addresses, files) {
+        Ok((passes, all)) => match hub.finish(passes) {
+            Ok(_) if all => Ok(()),
+            _ => Err(Stop::Fault(Fault::Memory)),
+        },
+        Err(stop) => {
+            let _ = hub.finish(Vec::new(server.alloc));
+            Err(stop)
+        }
     }
 }
 
@@ -235,6 +275,42 @@ impl<
         + Wait
         + Sync,
 > Server<'_, R> {
+    /// Publishes the items of the spools whose files are `files`, opens the ports at `addresses`, and serves who connects there. Returns
+    /// the passes, and whether they are all there.
+    fn host_on<'a, L: Ledgers + Send + Sync>(
+        &'a self,
+        hub: &'a Hub<L>,
+        bells: &'a Bells,
+        addresses: (SocketAddrV4, SocketAddrV4),
+        files: Vec<SpoolFiles<'a, R>>,
+    ) -> Result<(Vec<Pass<L>>, bool), Stop> {
+        let Opened {
+            spools,
+            pass,
+            mut players,
+            mut publishers,
+        } = open(self, hub, addresses, files)?;
+        let service = Service {
+            rt: self.rt,
+            alloc: self.alloc,
+            clock: &self.watch,
+            gate: &self.numbers,
+            sink: &&self.records,
+            bell: &bells,
+            hub,
+            spools: &spools,
+        };
+        let (served, fed) = self.work(&service, &mut players, &mut publishers, bells);
+        let (mut passes, served) = served;
+        let (more, fed) = fed;
+        let mut all = served.is_none() && fed.is_none();
+        for pass in more {
+            all &= passes.push(pass).is_ok();
+        }
+        all &= passes.push(pass).is_ok();
+        Ok((passes, all))
+    }
+
     /// Serves those who connect at the two listeners, and keeps the time. Returns the passes of those who serve players, and of those who
     /// serve publishers, each with the fault if they aren't all there.
     fn work<
@@ -242,10 +318,11 @@ impl<
         C: Clock + Sync,
         G: Gate + Sync,
         K: Sink + Sync,
+        D: Disk + Send,
         B: Bell + Sync,
     >(
         &self,
-        service: &Service<'_, L, C, G, K, B, R>,
+        service: &Service<'_, L, C, G, K, D, B, R>,
         players: &mut Listener<'_, R>,
         publishers: &mut Listener<'_, R>,
         bells: &Bells,
@@ -276,10 +353,11 @@ impl<
         C: Clock + Sync,
         G: Gate + Sync,
         K: Sink + Sync,
+        D: Disk + Send,
         B: Bell + Sync,
     >(
         &self,
-        service: &Service<'_, L, C, G, K, B, R>,
+        service: &Service<'_, L, C, G, K, D, B, R>,
         listener: &mut Listener<'_, R>,
         bells: &Bells,
     ) -> Served<L> {
@@ -292,8 +370,13 @@ impl<
         C: Clock + Sync,
         G: Gate + Sync,
         K: Sink + Sync,
+        D: Disk + Send,
         B: Bell + Sync,
-    >(&self, service: &Service<'_, L, C, G, K, B, R>, listener: &mut Listener<'_, R>) -> Served<L> {
+    >(
+        &self,
+        service: &Service<'_, L, C, G, K, D, B, R>,
+        listener: &mut Listener<'_, R>,
+    ) -> Served<L> {
         let workers = self.workers.count;
         self.report(
             "publishers",
@@ -317,9 +400,9 @@ impl<
     }
 
     /// Passes the channels the time, again and again. Hands out their records and writes their numbers now and then, if these are kept.
-    fn keep_time<L: Ledgers, C, G, K: Sink, B: Bell>(
+    fn keep_time<L: Ledgers, C, G, K: Sink, D: Disk, B: Bell>(
         &self,
-        service: &Service<'_, L, C, G, K, B, R>,
+        service: &Service<'_, L, C, G, K, D, B, R>,
     ) {
         for _ in self.rt.forever() {
             for _ in 0..ROUNDS {
@@ -351,7 +434,10 @@ impl<
     }
 
     /// Passes the channels the time as often as that is done between two hand-outs of the records.
-    fn tick<L: Ledgers, C, G, K: Sink, B: Bell>(&self, service: &Service<'_, L, C, G, K, B, R>) {
+    fn tick<L: Ledgers, C, G, K: Sink, D: Disk, B: Bell>(
+        &self,
+        service: &Service<'_, L, C, G, K, D, B, R>,
+    ) {
         for _ in 0..TICKS {
             self.tell(service);
             thread::sleep(self.rt, Duration::from_millis(TICK));
@@ -360,7 +446,10 @@ impl<
 
     /// Passes the channels the time once. If one refuses it, because its record is full or it is out of memory, hands out its record and
     /// passes it the time again; if it refuses again, goes on with those after it.
-    fn tell<L: Ledgers, C, G, K: Sink, B: Bell>(&self, service: &Service<'_, L, C, G, K, B, R>) {
+    fn tell<L: Ledgers, C, G, K: Sink, D: Disk, B: Bell>(
+        &self,
+        service: &Service<'_, L, C, G, K, D, B, R>,
+    ) {
         let (hub, ms) = (service.hub, self.watch.now());
         let mut bell = *service.bell;
         let (mut first, mut again) = (0, None);
@@ -380,7 +469,10 @@ impl<
     }
 
     /// Hands out the record of each channel, if records are kept.
-    fn hand_out<L: Ledgers, C, G, K: Sink, B>(&self, service: &Service<'_, L, C, G, K, B, R>) {
+    fn hand_out<L: Ledgers, C, G, K: Sink, D: Disk, B>(
+        &self,
+        service: &Service<'_, L, C, G, K, D, B, R>,
+    ) {
         for channel in 0..self.records.len() {
             let mut sink = *service.sink;
             let _ = service.hub.rotate_to(self.rt, channel, &mut sink);

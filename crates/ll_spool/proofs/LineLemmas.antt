@@ -1,0 +1,89 @@
+-- Where the first line of a text ends, and which item a line spells.
+use Rattle.std.proofs.Common.{◌≡◌, ℕ, ◌+◌, ◌-◌, ◌<◌, ◌==◌, List, [], ◌∷◌, Bool, true, false, cond, Some, None, Result, Ok, Err, IfOk, IsErrOf, refl, ap, sym, ◌∙◌, length, get_or, take, drop, option_and_then, arith}
+use Rattle.std.proofs.lemmas.List.{take_rest}
+use Rattle.std.proofs.lemmas.List.Elements.{All-from_get_or}
+use Rattle.std.proofs.lemmas.List.Splits.{slice_split_first, slice_split_none, slice_split-cons_no, slice_split-cons_yes}
+use Rattle.std.proofs.lemmas.List.Sums.{position_or_len_is}
+use Rattle.std.specs.List.{onto_first, position_or_len}
+use Rattle.std.proofs.lemmas.Str.{IsUtf8-from_is_utf8, is_utf8-from_IsUtf8}
+use Rattle.std.specs.Str.{IsUtf8, is_utf8}
+use Rattle.memchr.specs.Find.{IsFirstByte, is_byte}
+use Rattle.ll_attr.specs.Words.{after, pieces_at}
+use Rattle.ll_item.specs.Settings.{Configuration}
+use Rattle.ll_item.specs.declared.item.Item.{Item}
+use Rattle.ll_spool.specs.declared.fault.RestoreFault.{RestoreFault}
+use Rattle.ll_spool.specs.declared.fault.RestoreFault.TheVariants as fault
+use Rattle.ll_spool.specs.Spooled.{lines_in, numbered, published_in, spooled_in, whole}
+
+abbrev is_lf : ℕ → Bool
+is_lf b = b == 10
+
+not_true : (b : Bool) → ¬ (b ≡ true) → b ≡ false
+not_true true h = absurd (h refl)
+not_true false h = refl
+
+-- a text has one piece at least
+abbrev HasPiece : List (List ℕ) → Type 0
+HasPiece pieces = (first : List ℕ) × (more : List (List ℕ)) × (pieces ≡ first ∷ more)
+
+onto-piece : (b : ℕ) (pieces : List (List ℕ)) → HasPiece (onto_first b pieces)
+onto-piece b [] = (b ∷ [], [], refl)
+onto-piece b (piece ∷ more) = (b ∷ piece, more, refl)
+
+piece-by : (b : ℕ) (bs : List ℕ) (end : Bool) → is_lf b ≡ end → HasPiece (pieces_at 10 (b ∷ bs))
+piece-by b bs true e = ([], pieces_at 10 bs, slice_split-cons_yes is_lf b bs e)
+piece-by b bs false e =
+    let on = onto-piece b (pieces_at 10 bs) in (on.0, on.1, slice_split-cons_no is_lf b bs e ∙ on.2)
+
+has-piece : (text : List ℕ) → HasPiece (pieces_at 10 text)
+has-piece [] = ([], [], refl)
+has-piece (b ∷ bs) = piece-by b bs (is_lf b) refl
+
+-- a line that has its end, before the others
+pub lines-cons : (line rest : List ℕ) → whole (line ∷ pieces_at 10 rest) ≡ line ∷ lines_in rest
+lines-cons line rest =
+    let (first, more, are) = has-piece rest in ap (λ ps. whole (line ∷ ps)) are ∙ ap (λ ps. line ∷ whole ps) (sym are)
+
+pub cut-some : (bytes : List ℕ) (end : ℕ) → IsFirstByte (is_byte 10) bytes (Some end)
+    → lines_in bytes ≡ take end bytes ∷ lines_in (take (length bytes - (end + 1)) (drop (end + 1) bytes))
+cut-some bytes end h =
+    let first = h.0 in
+    let at : position_or_len is_lf bytes ≡ end =
+    position_or_len_is is_lf bytes end 0 (omega (arith, first.high)) (λ k l. not_true (is_lf (get_or bytes k 0)) (first.before k (omega arith) l)) (λ _. h.1) in
+    let within : position_or_len is_lf bytes < length bytes = omega (arith, at, first.high) in
+    ap whole (slice_split_first is_lf bytes 0 within)
+    ∙ ap (λ n. whole (take n bytes ∷ pieces_at 10 (drop (n + 1) bytes))) at
+    ∙ lines-cons (take end bytes) (drop (end + 1) bytes)
+    ∙ ap (λ rest. take end bytes ∷ lines_in rest) (sym (take_rest bytes (end + 1)))
+
+pub cut-none : (bytes : List ℕ) → IsFirstByte (is_byte 10) bytes None → lines_in bytes ≡ []
+cut-none bytes h =
+    ap whole (slice_split_none is_lf bytes (All-from_get_or (λ b. is_lf b ≡ false) bytes 0 (λ i l. not_true (is_lf (get_or bytes i 0)) (h i (omega arith) l))))
+
+-- ---- the item of a line
+
+module _ (c : Configuration) (n : ℕ) (line : List ℕ) where
+  pub spooled-raw : ¬ (IsUtf8 line) → spooled_in c n line ≡ None
+  spooled-raw raw =
+      ap (λ b. cond b (option_and_then (published_in c) (after (numbered n) line)) None) (not_true (is_utf8 line) (λ e. raw (IsUtf8-from_is_utf8 line e)))
+
+  pub spooled-some : (text number rest : List ℕ) (item : Item) → text ≡ line → IsUtf8 line → number ≡ numbered n → after number text ≡ Some rest
+      → published_in c rest ≡ Some item → spooled_in c n line ≡ Some item
+  spooled-some text number rest item same u is found read =
+      ap (λ b. cond b (option_and_then (published_in c) (after (numbered n) line)) None) (is_utf8-from_IsUtf8 line u)
+      ∙ ap (λ w. option_and_then (published_in c) (after w line)) (sym is)
+      ∙ ap (λ t. option_and_then (published_in c) (after number t)) (sym same)
+      ∙ ap (option_and_then (published_in c)) found
+      ∙ read
+
+  pub spooled-ok : (text number rest : List ℕ) (read : Result Item RestoreFault) → text ≡ line → IsUtf8 line → number ≡ numbered n → after number text ≡ Some rest
+      → IfOk read (λ item. published_in c rest ≡ Some item) → IfOk read (λ item. spooled_in c n line ≡ Some item)
+  spooled-ok text number rest (Ok item) same u is found read = spooled-some text number rest item same u is found read
+  spooled-ok text number rest (Err fault) same u is found read = tt
+
+-- the fault that a function returns is that of a line
+abbrev no-item : RestoreFault → Result Item RestoreFault
+no-item found = Err found
+
+pub bad-line : (number wanted : ℕ) (found : RestoreFault) → found ≡ fault.Line wanted → IsErrOf (no-item found) (fault.Line number) → number ≡ wanted
+bad-line number wanted found is e = let same : no-item (fault.Line wanted) ≡ no-item (fault.Line number) = ap no-item (sym is) ∙ e in cc

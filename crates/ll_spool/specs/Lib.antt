@@ -1,0 +1,3 @@
+-- The definitions of this crate: the text of a channel's spool.
+pub mod Restored
+pub mod Spooled

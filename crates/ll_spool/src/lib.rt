@@ -1,0 +1,21 @@
+//! A channel's spool: what a server keeps of the items that it has accepted, so that a start can publish them again. It has the text of
+//! the items, and two files of bytes of those whose media may still be asked for.
+#![tactic(auto)]
+
+mod disk;
+mod fault;
+mod filled;
+mod layout;
+mod line;
+mod lines;
+mod restoring;
+mod side;
+mod spool;
+mod survey;
+mod track;
+
+pub use disk::{Disk, Lost};
+pub use fault::{NotKept, RestoreFault};
+pub use restoring::{Accepts, restore};
+pub use side::{Place, Side};
+pub use spool::Spool;

@@ -1,0 +1,176 @@
+//! A start: the items of a spool are published again.
+ghost use Rattle.std.specs.Prelude.{◌≡◌, ◌<◌, ◌^◌, ◌∷◌, [], IfOk, IfSome, IsErrOf, List, OnOk, Option, length, ℕ};
+ghost use Rattle.ll_item.specs.Items.{blank};
+ghost use Rattle.ll_item.specs.declared.item.Item.{Item as ItemValue};
+ghost use Rattle.ll_spool.specs.Restored.{IsPublished, IsRestored, IsSpelledBy, accepted_after};
+ghost use Rattle.ll_spool.specs.Spooled.{items_from, lines_in};
+
+use crate::disk::Disk;
+use crate::fault::{AddFault, RestoreFault};
+use crate::filled::{filled, item_len};
+use crate::layout::Layout;
+use crate::line::{bad, read_line};
+use crate::lines::{Lines, cut_line};
+use crate::side::Place;
+use crate::spool::Spool;
+use crate::survey::{Stored, Survey};
+use ll_entry::settings_text;
+use ll_item::{Item, Media, Payload, Settings};
+use std::alloc::{AllocError, Global};
+
+/// A channel that accepts items.
+pub trait Accepts {
+    /// The items that it has accepted, if they are known.
+    ghost accepted: { Self → Option (List ItemValue) };
+
+    /// Publishes `item`, and returns how many items the channel has with it; `None` if it refuses the item.
+    fn accept(&mut self, item: Item) -> Result<Option<u64>, AllocError>
+        ensures accepted { IfOk result (λ found. IfSome found (λ n. accepted self.new ≡ accepted_after (accepted self.old) (item ∷ []))) };
+}
+
+/// Publishes the items of `text`, the text of the spool of a channel of `settings` whose files are `disk`. Returns the spool, which goes on
+/// after them, and their number.
+pub fn restore<D: Disk, A: Accepts>(
+    alloc: Global,
+    settings: &Settings,
+    text: &[u8],
+    mut disk: D,
+    channel: &mut A,
+) -> Result<(Spool<D>, u64), RestoreFault>
+    ensures restored { IfOk result (λ r. IsRestored settings.now text.now (A.accepted channel.old) (A.accepted channel.new) r.1) }
+{
+    let own = settings.copy(alloc)?;
+    let Some((first, lines)) = cut_line(text) else {
+        let layout = Layout::new(alloc, settings)?;
+        return Ok((Spool::new(alloc, own, disk, layout, 0), 0));
+    };
+    let line = settings_text(alloc, settings)?;
+    if first != line.as_bytes() {
+        return Err(RestoreFault::Line(1));
+    }
+    let stored = survey(alloc, settings, lines)?;
+    let (layout, count, rest) = publish(alloc, settings, lines, &stored, &mut disk, channel)?;
+    let whole = text.len().saturating_sub(rest) as u64;
+    Ok((Spool::new(alloc, own, disk, layout, whole), count))
+}
+
+/// Returns where the bytes are that may still be asked for after the items of `text`.
+fn survey(alloc: Global, settings: &Settings, text: &[u8]) -> Result<Vec<Stored>, RestoreFault> {
+    let mut survey = Survey::new(alloc, settings)?;
+    let mut lines = Lines::of(text);
+    while let Some((count, line)) = lines.next() {
+        let item = read_line(alloc, settings, count, line)?;
+        added(count, survey.add(count, &item))?;
+    }
+    Ok(survey.finish(alloc)?)
+}
+
+/// Publishes the items of `text`, with the bytes of those that are `stored`. Returns where the bytes are then, the number of items, and the
+/// number of bytes after the last line.
+fn publish<D: Disk, A: Accepts>(
+    alloc: Global,
+    settings: &Settings,
+    text: &[u8],
+    stored: &[Stored],
+    disk: &mut D,
+    channel: &mut A,
+) -> Result<(Layout, u64, usize), RestoreFault>
+    ensures published { IfOk result (λ r. IsPublished (items_from settings.now 1 (lines_in text.now)) (A.accepted channel.old) (A.accepted channel.new) r.1) }
+{
+    let mut layout = Layout::new(alloc, settings)?;
+    let mut lines = Lines::of(text);
+    let mut next = 0;
+    while let Some((count, line)) = lines.next() {
+        let place = place_of(count, stored.get(next));
+        if place.is_some() {
+            next = next.saturating_add(1);
+        }
+        let item = read_item(alloc, settings, count, line, place, disk)?;
+        follow(&mut layout, count, &item)?;
+        accept(channel, count, item)?;
+    }
+    Ok((layout, lines.count(), lines.rest_len()))
+}
+
+/// Returns where the bytes of the item of the number `count` are, if these are `stored`.
+fn place_of(count: u64, stored: Option<&Stored>) -> Option<Place> {
+    match stored {
+        Some(found) if found.count == count => Some(found.place),
+        _ => None,
+    }
+}
+
+/// Parses `line` as that of the item of the number `count`. If its bytes are at `place`, it has these, else zeros.
+fn read_item<D: Disk>(
+    alloc: Global,
+    settings: &Settings,
+    count: u64,
+    line: &[u8],
+    place: Option<Place>,
+    disk: &mut D,
+) -> Result<Item, RestoreFault>
+    requires few { count < 2 ^ 63 }
+    ensures spelled { IfOk result (IsSpelledBy settings.now count line.now) }
+{
+    let item = read_line(alloc, settings, count, line)?;
+    match place {
+        Some(place) => with_bytes(alloc, count, item, place, disk),
+        None => Ok(item),
+    }
+}
+
+/// Returns `item`, the item of the number `count`, with its bytes, which are at `place`.
+fn with_bytes<D: Disk>(
+    alloc: Global,
+    count: u64,
+    item: Item,
+    place: Place,
+    disk: &mut D,
+) -> Result<Item, RestoreFault>
+    requires few { count < 2 ^ 63 }
+    ensures same { IfOk result (λ filled. blank filled ≡ blank item) }
+{
+    if item_len(&item) != place.length {
+        return Err(bad(count));
+    }
+    let mut bytes = vec![in alloc; 0; place.length as usize]?;
+    if !disk.read(place, &mut bytes) {
+        return Err(bad(count));
+    }
+    match Payload::of_bytes(&bytes) {
+        Some(payload) => Ok(filled(item, Media::new(alloc, &payload)?)),
+        None => Err(bad(count)),
+    }
+}
+
+/// Adds `item`, the channel's item of the number `count`, to `layout`.
+fn follow(layout: &mut Layout, count: u64, item: &Item) -> Result<(), RestoreFault>
+    requires few { count < 2 ^ 63 }
+{
+    if layout.turns_for(item) {
+        layout.turn();
+    }
+    added(count, layout.add(count, item))
+}
+
+/// Returns the fault of the line of the item of the number `count`, if that couldn't be added.
+fn added(count: u64, outcome: Result<(), AddFault>) -> Result<(), RestoreFault>
+    requires few { count < 2 ^ 63 }
+{
+    match outcome {
+        Ok(()) => Ok(()),
+        Err(AddFault::Memory) => Err(RestoreFault::Memory),
+        Err(AddFault::Refused) => Err(bad(count)),
+    }
+}
+
+/// Publishes `item`, which is to be the channel's item of the number `count`.
+fn accept<A: Accepts>(channel: &mut A, count: u64, item: Item) -> Result<(), RestoreFault>
+    requires few { count < 2 ^ 63 }
+    ensures accepted { OnOk result (A.accepted channel.new ≡ accepted_after (A.accepted channel.old) (item ∷ [])) }
+{
+    match channel.accept(item)? {
+        Some(number) if number == count => Ok(()),
+        _ => Err(bad(count)),
+    }
+}

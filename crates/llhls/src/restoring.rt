@@ -1,0 +1,135 @@
+//! The start of a server that keeps what it accepts: the items of its channels' spools are published again.
+ghost use Rattle.std.specs.Prelude.{None};
+
+use crate::stop::Stop;
+use ll_command::Fault;
+use ll_hub::{Bell, Hub, HubFault, Ledgers, Pass, RoomFault, Sink};
+use ll_item::Item;
+use ll_server::SpoolFiles;
+use ll_spool::{Accepts, RestoreFault, Spool, restore};
+use ll_verdict::PublishFault;
+use std::alloc::{AllocError, Global};
+use std::sync::{Mutex, Wait};
+
+/// The number of items after which a channel's record is handed out: as many as it holds.
+const RECORD: u64 = 65_536;
+
+/// A bell that nobody hears: no request waits before the ports are open.
+#[derive(Clone, Copy)]
+struct Silent;
+
+impl Bell for Silent {
+    fn ring(&mut self, _channel: usize, _more: usize) {}
+}
+
+/// A hub, in one channel of which items are published again.
+#[derive(Drop)]
+struct Restored<'a, L: Ledgers, K: Drop, R> {
+    rt: &'a R,
+    alloc: Global,
+    hub: &'a Hub<L>,
+    pass: Pass<L>,
+    sink: K,
+    /// The channel's place in the hub.
+    place: usize,
+}
+
+impl<L: Ledgers, K: Sink + Drop, R: Wait> Accepts for Restored<'_, L, K, R> {
+    ghost accepted = { λ _. None };
+
+    fn accept(&mut self, item: Item) -> Result<Option<u64>, AllocError> {
+        let published = self
+            .hub
+            .publish(self.rt, &mut Silent, &mut self.pass, self.place, item);
+        let count = match published {
+            Ok(count) => count.into_inner(),
+            Err(
+                HubFault::Memory
+                | HubFault::Room {
+                    fault: RoomFault::Publish(PublishFault::Memory),
+                    ..
+                },
+            ) => return Err(AllocError),
+            Err(_) => return Ok(None),
+        };
+        if count % RECORD == 0 {
+            let handed_out = self.hub.rotate_to(self.rt, self.place, &mut self.sink);
+            if handed_out.is_err() {
+                return Err(AllocError);
+            }
+        }
+        Ok(Some(count))
+    }
+}
+
+impl<'a, L: Ledgers, K: Sink + Drop, R: Eprint + Wait> Restored<'a, L, K, R> {
+    /// Publishes the items of the spool whose files are `files`, and says on standard error how many they are, or which line can't stand.
+    fn restore(&mut self, files: SpoolFiles<'a, R>) -> Result<Spool<SpoolFiles<'a, R>>, Stop> {
+        let (rt, hub) = (self.rt, self.hub);
+        let Some((place, settings)) = hub.find(files.channel()) else {
+            return Err(Stop::Spool(4));
+        };
+        self.place = place;
+        let channel = settings.channel();
+        let Ok(text) = files.text(self.alloc) else {
+            return Err(Stop::Spool(4));
+        };
+        match restore(self.alloc, settings, &text, files, self) {
+            Ok((spool, count)) => {
+                let _ = eprintln!(rt; "llhls: spool: {channel}: {count} items");
+                Ok(spool)
+            }
+            Err(RestoreFault::Line(line)) => {
+                let _ = eprintln!(rt; "llhls: spool: {channel} {line}");
+                Err(Stop::Spool(3))
+            }
+            Err(RestoreFault::Memory) => Err(Stop::Fault(Fault::Memory)),
+        }
+    }
+}
+
+/// The channels' spools, in the order of the channels.
+pub(crate) type Spools<'a, R> = Vec<Mutex<Spool<SpoolFiles<'a, R>>>>;
+
+/// Publishes the items of the spools whose files are `files`, one for each channel in order, or none, and makes these ready for further
+/// items. Nothing is written unless all can stand. Returns the spools, and the pass with which their items were published.
+pub(crate) fn restore_all<'a, L: Ledgers, K: Sink + Drop, R: Eprint + Wait>(
+    rt: &'a R,
+    alloc: Global,
+    hub: &'a Hub<L>,
+    sink: K,
+    files: Vec<SpoolFiles<'a, R>>,
+) -> Result<(Spools<'a, R>, Pass<L>), Stop> {
+    let Ok(pass) = hub.seat(rt) else {
+        return Err(Stop::Fault(Fault::Memory));
+    };
+    let mut channel = Restored {
+        rt,
+        alloc,
+        hub,
+        pass,
+        sink,
+        place: 0,
+    };
+    let mut restored = Vec::new(alloc);
+    for files in files {
+        let spool = channel.restore(files)?;
+        push(&mut restored, spool)?;
+    }
+    let mut spools = Vec::new(alloc);
+    for mut spool in restored {
+        if spool.begin().is_err() {
+            return Err(Stop::Spool(4));
+        }
+        push(&mut spools, Mutex::new(spool))?;
+    }
+    Ok((spools, channel.pass))
+}
+
+/// Appends `last` to `list`.
+pub(crate) fn push<T: Drop>(list: &mut Vec<T>, last: T) -> Result<(), Stop> {
+    match list.push(last) {
+        Ok(()) => Ok(()),
+        Err(_) => Err(Stop::Fault(Fault::Memory)),
+    }
+}
