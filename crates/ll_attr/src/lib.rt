@@ -12,5 +12,5 @@ mod text;
 pub use attributes::{AttrFault, AttrList, AttrValue, Attribute};
 pub use micros::{Micros, micros_text, parse_micros};
 pub use number::parse_number;
-pub use parts::{after, cut};
+pub use parts::{after, cut, one_word};
 pub use text::Text;

@@ -16,7 +16,7 @@ use Rattle.ll_entry.specs.declared.version.Version.{Version}
 use Rattle.ll_entry.proofs.ChunkProof.{another_is, at_line, begun_is, continued_is}
 use Rattle.ll_entry.proofs.LeadLemmas.{joined-right}
 use Rattle.ll_entry.proofs.ToldLemmas.{told-right}
-use Rattle.ll_item.specs.Settings.{Configuration}
+use Rattle.ll_settings.specs.Settings.{Configuration}
 use Rattle.ll_verdict.specs.Events.{Event, steps_from}
 use Rattle.ll_check.specs.Records.{AreToldBy, Chunk, IsRecord, IsRun, IsToldBy, Run, are_in_order, chunk_lines, chunks, entries_in, events_in, lines_of}
 use Rattle.ll_check.proofs.Few.{few}

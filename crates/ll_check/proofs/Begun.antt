@@ -19,10 +19,10 @@ use Rattle.ll_entry.specs.declared.version.Version.TheVariants.{One, Two}
 use Rattle.ll_entry.proofs.ToldLemmas.{right-told}
 use Rattle.ll_format.proofs.FormatLaws.{bind_some, key_takes}
 use Rattle.ll_format.proofs.WordLaws.{number-laws}
-use Rattle.ll_item.proofs.SameLemmas.{settings_decided}
-use Rattle.ll_item.specs.Same.{same_settings}
-use Rattle.ll_item.specs.Settings.{Configuration, settings_in}
-use Rattle.ll_item.specs.declared.settings.SettingsFault.{SettingsFault}
+use Rattle.ll_settings.proofs.SameLemmas.{settings_decided}
+use Rattle.ll_settings.specs.Same.{same_settings}
+use Rattle.ll_settings.specs.Settings.{Configuration, settings_in}
+use Rattle.ll_settings.specs.declared.settings.SettingsFault.{SettingsFault}
 use Rattle.ll_verdict.specs.Events.{Event}
 use Rattle.ll_check.specs.Records.{IsToldBy}
 

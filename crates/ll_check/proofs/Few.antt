@@ -8,7 +8,7 @@ use Rattle.ll_verdict.specs.Waiting.{has_ticket, is_ready_at, reply_at, settled_
 use Rattle.ll_entry.specs.Entered.{event_of, fault_in, is_open_after, same_answer, settled_after, unless_refused}
 use Rattle.ll_entry.specs.declared.entry.Recorded.{Recorded}
 use Rattle.ll_entry.specs.declared.entry.Recorded.TheVariants as recorded
-use Rattle.ll_item.specs.Settings.{Configuration}
+use Rattle.ll_settings.specs.Settings.{Configuration}
 use Rattle.ll_entry.proofs.ToldLemmas.{both, same_answers, told-right}
 use Rattle.ll_entry.specs.Told.{as_told}
 use Rattle.ll_entry.specs.Replies.{told_in}

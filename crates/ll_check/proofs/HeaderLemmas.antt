@@ -7,8 +7,8 @@ use Rattle.ll_entry.specs.Chain.{Chain, another, begun_by, entries, is_channel, 
 use Rattle.ll_entry.specs.declared.fault.CheckKind.{CheckKind}
 use Rattle.ll_entry.specs.declared.fault.CheckKind.TheVariants.{Memory, OtherChannel}
 use Rattle.ll_entry.specs.declared.version.Version.{Version}
-use Rattle.ll_item.specs.Settings.{Configuration}
-use Rattle.ll_item.specs.declared.settings.SettingsFault.{SettingsFault}
+use Rattle.ll_settings.specs.Settings.{Configuration}
+use Rattle.ll_settings.specs.declared.settings.SettingsFault.{SettingsFault}
 use Rattle.ll_room.specs.RoomValue.{RoomValue, room_value}
 use Rattle.ll_verdict.specs.State.{state_of}
 

@@ -14,9 +14,9 @@ use Rattle.ll_entry.specs.declared.fault.CheckFault.{CheckFault}
 use Rattle.ll_entry.specs.declared.fault.CheckKind.{CheckKind}
 use Rattle.ll_entry.specs.declared.fault.CheckKind.TheVariants.{BadChunk, Memory}
 use Rattle.ll_entry.specs.declared.version.Version.{Version}
-use Rattle.ll_item.specs.Same.{same_settings}
-use Rattle.ll_item.specs.Settings.{Configuration, settings_in}
-use Rattle.ll_item.specs.declared.settings.SettingsFault.{SettingsFault}
+use Rattle.ll_settings.specs.Same.{same_settings}
+use Rattle.ll_settings.specs.Settings.{Configuration, settings_in}
+use Rattle.ll_settings.specs.declared.settings.SettingsFault.{SettingsFault}
 use Rattle.ll_verdict.specs.Events.{Event}
 
 own : (n : ℕ) → nat_le n n ≡ true

@@ -9,7 +9,7 @@ use Rattle.ll_entry.specs.Entries.{entry_in}
 use Rattle.ll_entry.specs.declared.entry.Recorded.{Recorded}
 use Rattle.ll_entry.specs.declared.fault.CheckKind.{CheckKind}
 use Rattle.ll_entry.specs.declared.version.Version.{Version}
-use Rattle.ll_item.specs.Settings.{Configuration}
+use Rattle.ll_settings.specs.Settings.{Configuration}
 use Rattle.ll_room.specs.RoomValue.{RoomValue, Stands}
 use Rattle.ll_verdict.specs.Events.{Event}
 use Rattle.ll_verdict.specs.declared.reply.Reply.{Reply}

@@ -18,8 +18,8 @@ use Rattle.ll_entry.specs.Frame.{last_line}
 use Rattle.ll_entry.specs.declared.fault.CheckFault.{CheckFault}
 use Rattle.ll_entry.specs.declared.fault.CheckKind.{CheckKind}
 use Rattle.ll_entry.specs.declared.version.Version.{Version}
-use Rattle.ll_item.specs.Settings.{Configuration}
-use Rattle.ll_item.specs.declared.settings.SettingsFault.{SettingsFault}
+use Rattle.ll_settings.specs.Settings.{Configuration}
+use Rattle.ll_settings.specs.declared.settings.SettingsFault.{SettingsFault}
 
 -- ---- one line of a chunk
 

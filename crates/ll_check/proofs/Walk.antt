@@ -13,7 +13,7 @@ use Rattle.ll_entry.specs.declared.fault.CheckKind.{CheckKind}
 use Rattle.ll_entry.specs.declared.fault.CheckKind.TheVariants.{BadChunk}
 use Rattle.ll_entry.specs.declared.version.Version.{Version}
 use Rattle.ll_entry.proofs.ChunkProof.{plain}
-use Rattle.ll_item.specs.Settings.{Configuration, settings_in}
+use Rattle.ll_settings.specs.Settings.{Configuration, settings_in}
 use Rattle.ll_verdict.specs.Events.{Event, steps_from}
 use Rattle.ll_check.specs.Records.{AreToldBy, Chunk, IsRecord, IsRun, Run, are_in_order, chunk_lines, entries_in, events_in, lines_of}
 use Rattle.ll_check.proofs.Begun.{Another, BegunParts, EntryParts, Next, Onward, begun_lines, entry_line, new_chain, same_bytes}

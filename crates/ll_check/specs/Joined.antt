@@ -5,8 +5,8 @@ use Rattle.ll_entry.specs.Chain.{Chain, another}
 use Rattle.ll_entry.specs.declared.fault.CheckKind.{CheckKind}
 use Rattle.ll_entry.specs.declared.fault.CheckKind.TheVariants.{Gap, OtherChannel}
 use Rattle.ll_entry.specs.declared.version.Version.{Version}
-use Rattle.ll_item.specs.Same.{same_settings}
-use Rattle.ll_item.specs.Settings.{Configuration}
+use Rattle.ll_settings.specs.Same.{same_settings}
+use Rattle.ll_settings.specs.Settings.{Configuration}
 
 -- it is what is kept of the chain that a chunk begins or goes on with
 abbrev pub IsBegun : Option ChainValue → Result Chain CheckKind → Type 0

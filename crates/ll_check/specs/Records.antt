@@ -9,7 +9,7 @@ use Rattle.ll_entry.specs.Told.{as_told, entry_of}
 use Rattle.ll_entry.specs.Frame.{first_line, is_older, last_line}
 use Rattle.ll_entry.specs.declared.entry.Recorded.{Recorded}
 use Rattle.ll_entry.specs.declared.version.Version.{Version}
-use Rattle.ll_item.specs.Settings.{Configuration, settings_in}
+use Rattle.ll_settings.specs.Settings.{Configuration, settings_in}
 use Rattle.ll_verdict.specs.Events.{Event, Step, steps}
 
 -- one chunk

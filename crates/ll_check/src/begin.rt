@@ -9,15 +9,15 @@ ghost use Rattle.ll_check.specs.Steps.{Moves};
 ghost use Rattle.ll_entry.specs.Chain as spec;
 ghost use Rattle.ll_entry.specs.Chain.{Between, another, begun, begun_by, checked_from, joined_at, wrong};
 ghost use Rattle.ll_entry.specs.Frame as frame;
-ghost use Rattle.ll_item.specs.Same.{same_settings};
-ghost use Rattle.ll_item.specs.Settings.{Configuration, settings_in};
+ghost use Rattle.ll_settings.specs.Same.{same_settings};
+ghost use Rattle.ll_settings.specs.Settings.{Configuration, settings_in};
 
 use crate::chain::{Chain, MOST_EARLIER, entries_of, is_channel};
 use crate::lines::{cut_three, text_in};
 use crate::told::Told;
 use ll_entry::{CheckKind, Version, place_in};
-use ll_item::{Settings, SettingsFault};
 use ll_room::Replayer;
+use ll_settings::{Settings, SettingsFault};
 use std::alloc::Global;
 
 /// The first three lines of a chunk, parsed.

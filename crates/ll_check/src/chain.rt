@@ -5,8 +5,8 @@ ghost use Rattle.ll_check.specs.Found.{AreKept, IsOf};
 ghost use Rattle.ll_entry.specs.Chain as spec;
 
 use ll_entry::Version;
-use ll_item::Settings;
 use ll_room::Replayer;
+use ll_settings::Settings;
 use std::marker::Model;
 
 /// The most entries of the chains before one: far more than any file holds.

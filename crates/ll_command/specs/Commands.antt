@@ -6,7 +6,7 @@ use Rattle.ll_command.specs.declared.command.Command.{Command}
 use Rattle.ll_command.specs.declared.command.Command.TheVariants as command
 use Rattle.ll_command.specs.declared.fault.Fault.{Fault}
 use Rattle.ll_entry.specs.Replies.{count}
-use Rattle.ll_item.specs.Names.{is_name}
+use Rattle.ll_settings.specs.Names.{is_name}
 use Rattle.ll_command.specs.declared.plan.Plan.{Plan}
 use Rattle.ll_command.specs.declared.fault.Fault.TheVariants.{Usage}
 

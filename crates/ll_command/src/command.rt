@@ -7,7 +7,7 @@ use crate::fault::Fault;
 use crate::plan::Plan;
 use ll_attr::Text;
 use ll_format::number;
-use ll_item::is_name;
+use ll_settings::is_name;
 
 /// The command that the program was called with.
 pub enum Command<'a> {

@@ -1,14 +1,14 @@
 -- Each connection has as many waiting requests as its session has wants out, whatever comes to it.
 use Rattle.std.proofs.Common.{◌≡◌, ◌≢◌, ℕ, zero, suc, ◌+◌, ◌≤◌, ◌==◌, List, [], ◌∷◌, Bool, true, false, Option, Some, None, is_some, length, map, if◌then◌else◌, refl, ap, ◌∙◌, sym, subst, true≢false, slice_get, arith}
 use Rattle.std.proofs.lemmas.Bool.Decides.{nat_tests}
-use Rattle.ll_item.specs.Channels.{channel_of_name}
-use Rattle.ll_item.proofs.ChannelLemmas.{named-within}
+use Rattle.ll_settings.specs.Channels.{channel_of_name}
+use Rattle.ll_settings.proofs.ChannelLemmas.{named-within}
 use Rattle.ll_directive.specs.Targets.{WantValue}
 use Rattle.ll_script_rooms.specs.Waits.{is_same, wait_of, without}
 use Rattle.ll_script_rooms.specs.declared.owner.Owner.{Owner}
 use Rattle.ll_script_rooms.specs.declared.owner.Owner.TheVariants.{Get, Connection}
 use Rattle.ll_script_rooms.specs.declared.wait.Wait.{Wait}
-use Rattle.ll_item.specs.Settings.{Configuration}
+use Rattle.ll_settings.specs.Settings.{Configuration}
 use Rattle.ll_verdict.specs.Full.{is_full}
 use Rattle.ll_session.specs.Past.{next_by, next_entries, overflows}
 use Rattle.ll_session.specs.Requests.{Entry}

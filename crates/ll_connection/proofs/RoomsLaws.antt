@@ -3,8 +3,8 @@ use Rattle.std.proofs.Common.{ℕ, zero, suc, List, [], ◌∷◌, Bool, true, f
 use Rattle.ll_directive.specs.Targets.{WantValue}
 use Rattle.ll_script_rooms.specs.declared.owner.Owner.{Owner}
 use Rattle.ll_script_rooms.specs.declared.owner.Owner.TheVariants as owner
-use Rattle.ll_item.specs.Settings.{Configuration}
-use Rattle.ll_item.specs.Channels.{channel_of_name}
+use Rattle.ll_settings.specs.Settings.{Configuration}
+use Rattle.ll_settings.specs.Channels.{channel_of_name}
 use Rattle.ll_session.specs.Past.{overflows}
 use Rattle.ll_session.specs.Talk.{SessionValue, fresh, next_want, pulled}
 use Rattle.ll_verdict.specs.declared.reply.Reply.{Reply}

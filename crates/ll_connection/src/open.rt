@@ -8,10 +8,10 @@ ghost use Rattle.ll_connection.specs.Stands.{AreTold, IsStill, IsToldVisit, IsVi
 
 use crate::sent::Sent;
 use ll_directive::{TargetFault, Want};
-use ll_item::Channels;
 use ll_script::push_sent;
 use ll_script_rooms::{ActAnswer, AskStop, Owner, Rooms};
 use ll_session::Session;
+use ll_settings::Channels;
 use ll_verdict::{AskFault, Reply};
 use ll_wire::Answer;
 use std::alloc::AllocError;

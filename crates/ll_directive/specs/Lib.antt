@@ -1,4 +1,4 @@
 pub mod Files
 pub mod Targets
 pub mod Told
-pub use Rattle.ll_item.specs.Names
+pub use Rattle.ll_settings.specs.Names

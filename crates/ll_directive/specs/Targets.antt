@@ -7,7 +7,7 @@ use Rattle.std.specs.Str.{str_eq_ignore_ascii_case}
 use Rattle.form_urlencoded.specs.Form.{parse}
 use Rattle.ll_attr.specs.Numbers.{number_in}
 use Rattle.ll_attr.specs.Words.{pieces_at, after}
-use Rattle.ll_item.specs.Names.{is_name}
+use Rattle.ll_settings.specs.Names.{is_name}
 use Rattle.ll_item.specs.declared.skip_kind.SkipKind.{SkipKind}
 use Rattle.ll_item.specs.declared.skip_kind.SkipKind.TheVariants.{Yes, V2}
 use Rattle.ll_directive.specs.Files.{file_in, is_playlist}

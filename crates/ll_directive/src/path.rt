@@ -6,7 +6,8 @@ ghost use Rattle.ll_directive.specs.Targets as spec;
 
 use crate::file::file_in;
 use ll_attr::{after, cut};
-use ll_item::{What, is_name};
+use ll_item::What;
+use ll_settings::is_name;
 
 /// Returns what precedes the first `separator`, or the whole text, and what follows it, or nothing.
 pub(crate) fn split(text: &str, separator: char) -> (&str, &str)

@@ -3,11 +3,12 @@ ghost use Rattle.std.specs.Prelude.{◌≡◌, ◌&&◌, IfOk, None, Some, false
 ghost use Rattle.ll_directive.specs.Files.{is_playlist};
 ghost use Rattle.ll_directive.specs.Targets as spec;
 ghost use Rattle.ll_directive.specs.Targets.{IsPlain, awaited_in, media_want};
-ghost use Rattle.ll_item.specs.Names.{is_name};
+ghost use Rattle.ll_settings.specs.Names.{is_name};
 ghost use Rattle.ll_item.specs.declared.what.What.TheVariants as what;
 
 use ll_attr::Text;
-use ll_item::{SkipKind, What, is_name};
+use ll_item::{SkipKind, What};
+use ll_settings::is_name;
 use std::alloc::AllocError;
 use std::marker::Model;
 
@@ -44,7 +45,7 @@ pub struct Want {
 
 impl Model for Want {
     ghost use Rattle.std.specs.Prelude.{◌≡◌, true};
-    ghost use Rattle.ll_item.specs.Names.{is_name};
+    ghost use Rattle.ll_settings.specs.Names.{is_name};
     ghost use Rattle.ll_directive.specs.Targets.{IsPlain, WantValue};
 
     ghost Value = { WantValue };

@@ -9,7 +9,7 @@ use Rattle.ll_attr.specs.declared.attributes.Attribute.{Attribute}
 use Rattle.ll_format.proofs.WordLaws.{inside_from}
 use Rattle.ll_format.specs.Words.{is_one_line}
 use Rattle.ll_item.specs.Items.{rendition_of}
-use Rattle.ll_item.specs.Settings.{Configuration}
+use Rattle.ll_settings.specs.Settings.{Configuration}
 use Rattle.ll_item.specs.declared.item.Item.{Item}
 use Rattle.ll_item.specs.declared.item.Item.TheVariants as item
 use Rattle.ll_range.specs.Announced as range

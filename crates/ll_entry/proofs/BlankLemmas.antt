@@ -12,7 +12,7 @@ use Rattle.ll_entry.specs.Replies.{told_in}
 use Rattle.ll_entry.specs.declared.entry.Recorded.TheVariants as recorded
 use Rattle.ll_entry.specs.declared.version.Version.{Version}
 use Rattle.ll_item.specs.Items.{blank}
-use Rattle.ll_item.specs.Settings.{Configuration}
+use Rattle.ll_settings.specs.Settings.{Configuration}
 use Rattle.ll_item.specs.Told.{Told}
 use Rattle.ll_item.specs.declared.item.Item.{Item}
 use Rattle.ll_page.specs.Page.{Paged}

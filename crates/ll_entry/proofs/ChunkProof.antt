@@ -18,9 +18,9 @@ use Rattle.ll_entry.specs.Chain.{Between, Chain, another, begun, begun_by, check
 use Rattle.ll_entry.specs.declared.fault.CheckKind.{CheckKind}
 use Rattle.ll_entry.specs.declared.fault.CheckKind.TheVariants.{BadChunk, Gap, OtherChannel}
 use Rattle.ll_entry.specs.Replies.{count, most}
-use Rattle.ll_item.proofs.SameLemmas.{settings_decided}
-use Rattle.ll_item.specs.Same.{same_settings}
-use Rattle.ll_item.specs.Settings.{Configuration, limit_broken, settings_in}
+use Rattle.ll_settings.proofs.SameLemmas.{settings_decided}
+use Rattle.ll_settings.specs.Same.{same_settings}
+use Rattle.ll_settings.specs.Settings.{Configuration, limit_broken, settings_in}
 use Rattle.ll_entry.specs.SettingsLine.{settings_line}
 use Rattle.ll_entry.specs.Leads.{ChunkLaw, FirstChunkLaw, IsChunkOf, IsLed, chain_of, chunk_text}
 use Rattle.ll_entry.specs.Frame.{first_line, header_text, is_older, last_line, place, version}

@@ -13,9 +13,9 @@ use Rattle.ll_format.proofs.FormatLaws.{FormatLaws, WordLaws, up_to-laws, to_end
 use Rattle.ll_item.proofs.LastWord.{cut-is, words-more}
 use Rattle.ll_item.specs.Items.{blank, flags_text, item_in, media_of}
 use Rattle.ll_item.specs.Media.{media_limit, zeros}
-use Rattle.ll_item.specs.Names.{is_name}
-use Rattle.ll_item.specs.Settings.{Configuration, limit_broken}
-use Rattle.ll_item.proofs.WithinLimits.{within}
+use Rattle.ll_settings.specs.Names.{is_name}
+use Rattle.ll_settings.specs.Settings.{Configuration, limit_broken}
+use Rattle.ll_settings.proofs.WithinLimits.{within}
 use Rattle.ll_item.specs.declared.item.Item.{Item}
 use Rattle.ll_item.specs.declared.item.Item.TheVariants as item
 use Rattle.ll_entry.specs.ItemLaws.{IsWritable}

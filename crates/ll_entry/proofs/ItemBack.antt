@@ -9,12 +9,12 @@ use Rattle.ll_attr.specs.declared.attributes.Attribute.{Attribute}
 use Rattle.ll_format.specs.Words.{is_one_line}
 use Rattle.ll_format.proofs.FormatLaws.{inside_both, lacks}
 use Rattle.ll_item.specs.Items.{item_in, item_of, part_by, part_at, flags_in, flags_text, named, init_at, finish_at, break_at, end_at, last_milli, leads_with_zero, media_of, range_at, range_of, time_in, timed_break, unrange_at}
-use Rattle.ll_item.specs.Settings.{Configuration, IsWithin}
+use Rattle.ll_settings.specs.Settings.{Configuration, IsWithin}
 use Rattle.ll_item.specs.declared.item.Item.{Item}
 use Rattle.ll_item.specs.declared.item.Item.TheVariants.{Part, Init, Finish, Break, End, Range, Unrange}
 use Rattle.ll_item.specs.declared.item.PartItem.{PartItem}
 use Rattle.ll_item.proofs.RangeLines.{range_words, unrange_words}
-use Rattle.ll_item.proofs.WithinLimits.{within}
+use Rattle.ll_settings.proofs.WithinLimits.{within}
 use Rattle.ll_entry.specs.ItemLaws.{ItemLaw, IsBreakTime, IsWritable}
 use Rattle.ll_item.specs.ItemLines.{with_id, part_line, init_line, finish_line, break_line, break_text, timed_break_line, end_line, range_line, unrange_line, item_line, name_of}
 use Rattle.ll_entry.proofs.Cuts.{AreWords, no_more, also, IsWord, cut_first, words_back, words_line}

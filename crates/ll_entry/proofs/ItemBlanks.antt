@@ -1,7 +1,7 @@
 -- What items say, and what is refused after them, doesn't depend on their bytes.
 use Rattle.std.proofs.Common.{◌≡◌, ℕ, ◌+◌, ◌*◌, ◌==◌, List, [], ◌∷◌, Bool, true, false, cond, Option, None, refl, ap, ap₂, ◌∙◌, length, map, filter, fold}
 use Rattle.ll_item.specs.Items.{blank, rendition_of}
-use Rattle.ll_item.specs.Settings.{Configuration, skip_limit}
+use Rattle.ll_settings.specs.Settings.{Configuration, skip_limit}
 use Rattle.ll_item.specs.Told.{Told, start, step, told}
 use Rattle.ll_item.specs.declared.item.Item.{Item}
 use Rattle.ll_item.specs.declared.item.Item.TheVariants as item

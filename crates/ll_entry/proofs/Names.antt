@@ -7,9 +7,9 @@ use Rattle.std.specs.List.{list_all, position, position_or_len}
 use Rattle.ll_format.specs.Words.{is_line_byte, is_one_line}
 use Rattle.ll_format.proofs.FormatLaws.{lacks}
 use Rattle.ll_format.proofs.WordLaws.{inside_from, lacks_from}
-use Rattle.ll_item.specs.Items.{named, rendition_named}
-use Rattle.ll_item.specs.Names.{is_name, is_name_byte, is_among, are_names}
-use Rattle.ll_item.specs.Settings.{Configuration, names_in}
+use Rattle.ll_item.specs.Items.{named}
+use Rattle.ll_settings.specs.Settings.{rendition_named, Configuration, names_in}
+use Rattle.ll_settings.specs.Names.{is_name, is_name_byte, is_among, are_names}
 use Rattle.ll_item.specs.ItemLines.{name_of}
 use Rattle.ll_entry.specs.SettingsLine.{names_text}
 use Rattle.ll_entry.proofs.Cuts.{cut_again, all-joined, IsWord}

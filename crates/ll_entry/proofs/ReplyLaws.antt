@@ -8,7 +8,7 @@ use Rattle.ll_format.specs.Format.{Format, ◌>>=◌, Word}
 use Rattle.ll_format.specs.Words.{is_line_byte}
 use Rattle.ll_format.proofs.FormatLaws.{FormatLaws, WordLaws, after_key-laws, beside-laws, bind_some, some_is, lacks, inside_both, key_takes, key_again, one_of-laws, to_end-laws, up_to-laws, whole-laws}
 use Rattle.ll_format.proofs.WordLaws.{number-laws, number-lacks, text_if-laws, lacks_from, inside_from}
-use Rattle.ll_item.specs.Names.{is_name, is_name_byte}
+use Rattle.ll_settings.specs.Names.{is_name, is_name_byte}
 use Rattle.ll_verdict.specs.declared.reply.Outcome.{Outcome}
 use Rattle.ll_verdict.specs.declared.reply.Outcome.TheVariants.{Text, Media, NotFound, TooFar, Busy, Timeout}
 use Rattle.ll_item.specs.declared.skip_kind.SkipKind.{SkipKind}

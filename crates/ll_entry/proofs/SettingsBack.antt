@@ -5,9 +5,9 @@ use Rattle.ll_attr.specs.Numbers.{number_in}
 use Rattle.ll_attr.specs.Words.{joined}
 use Rattle.ll_format.specs.Words.{is_one_line}
 use Rattle.ll_format.proofs.FormatLaws.{key_again}
-use Rattle.ll_item.specs.Names.{is_name}
-use Rattle.ll_item.specs.Settings.{Configuration, IsWithin, limit_broken, settings_in, settings_by, configuration_of, number_of, names_in, unless_broken, ◌>>=◌}
-use Rattle.ll_item.proofs.WithinLimits.{within}
+use Rattle.ll_settings.specs.Names.{is_name}
+use Rattle.ll_settings.specs.Settings.{Configuration, IsWithin, limit_broken, settings_in, settings_by, configuration_of, number_of, names_in, unless_broken, ◌>>=◌}
+use Rattle.ll_settings.proofs.WithinLimits.{within}
 use Rattle.ll_entry.specs.ItemLaws.{SettingsLaw}
 use Rattle.ll_entry.specs.SettingsLine.{names_text, settings_line}
 use Rattle.ll_entry.proofs.Cuts.{AreWords, no_more, also, IsWord, words_back, words_line, keyed}

@@ -5,7 +5,7 @@ use Rattle.std.proofs.lemmas.Option.{slice_get-map}
 use Rattle.std.specs.List.{concat}
 use Rattle.ll_item.specs.Items.{blank}
 use Rattle.ll_item.specs.Media.{zeros}
-use Rattle.ll_item.specs.Settings.{Configuration}
+use Rattle.ll_settings.specs.Settings.{Configuration}
 use Rattle.ll_item.specs.declared.item.Item.{Item}
 use Rattle.ll_item.specs.declared.item.Item.TheVariants as item
 use Rattle.ll_item.specs.declared.part.Part.{Part}

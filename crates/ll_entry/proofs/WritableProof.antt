@@ -1,8 +1,8 @@
 -- Kind by kind: what the rules demand of an accepted item is what its line needs.
 use Rattle.std.proofs.Common.{◌≡◌, ℕ, ◌<◌, ◌≤◌, ◌^◌, List, [], ◌∷◌, Bool, true, false, Option, None, Some, arith}
 use Rattle.std.proofs.lemmas.Bool.Decides.{nat_tests}
-use Rattle.ll_item.proofs.WithinLimits.{within}
-use Rattle.ll_item.specs.Settings.{Configuration, IsWithin}
+use Rattle.ll_settings.proofs.WithinLimits.{within}
+use Rattle.ll_settings.specs.Settings.{Configuration, IsWithin}
 use Rattle.ll_item.specs.declared.item.Item.{Item}
 use Rattle.ll_item.specs.declared.item.Item.TheVariants as item
 use Rattle.ll_range.specs.Announced.{announced}

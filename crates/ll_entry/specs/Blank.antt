@@ -5,7 +5,7 @@ use Rattle.ll_entry.specs.declared.entry.Recorded.{Recorded}
 use Rattle.ll_entry.specs.declared.entry.Recorded.TheVariants as recorded
 use Rattle.ll_entry.specs.declared.version.Version.{Version}
 use Rattle.ll_item.specs.Items.{blank}
-use Rattle.ll_item.specs.Settings.{Configuration}
+use Rattle.ll_settings.specs.Settings.{Configuration}
 use Rattle.ll_verdict.specs.Events.{Event, Publish, Ask, Collect, Close, Clock}
 
 -- an entry with zeros in place of bytes

@@ -9,9 +9,9 @@ use Rattle.ll_entry.specs.Frame.{is_older, last_line, place, version}
 use Rattle.ll_entry.specs.declared.entry.EntryFault.{EntryFault}
 use Rattle.ll_entry.specs.declared.entry.EntryFault.TheVariants as entry
 use Rattle.ll_entry.specs.declared.entry.Recorded.{Recorded}
-use Rattle.ll_item.specs.Same.{same_settings}
-use Rattle.ll_item.specs.Settings.{Configuration, settings_in}
-use Rattle.ll_item.specs.declared.settings.SettingsFault.{SettingsFault}
+use Rattle.ll_settings.specs.Same.{same_settings}
+use Rattle.ll_settings.specs.Settings.{Configuration, settings_in}
+use Rattle.ll_settings.specs.declared.settings.SettingsFault.{SettingsFault}
 use Rattle.ll_entry.specs.declared.version.Version.{Version}
 use Rattle.ll_verdict.specs.Events.{Event}
 use Rattle.ll_entry.specs.declared.fault.CheckFault.{CheckFault}

@@ -4,7 +4,7 @@ use Rattle.std.specs.List.{list_any}
 use Rattle.ll_verdict.specs.Waiting.{has_ticket, reply_at}
 use Rattle.ll_entry.specs.declared.entry.Recorded.{Recorded}
 use Rattle.ll_entry.specs.declared.entry.Recorded.TheVariants as recorded
-use Rattle.ll_item.specs.Settings.{Configuration}
+use Rattle.ll_settings.specs.Settings.{Configuration}
 use Rattle.ll_item.specs.declared.skip_kind.SkipKind.{SkipKind}
 use Rattle.ll_item.specs.declared.skip_kind.SkipKind.TheVariants.{Yes, V2}
 use Rattle.ll_entry.specs.Replies.{told_in}

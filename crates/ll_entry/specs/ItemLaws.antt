@@ -5,7 +5,7 @@ use Rattle.ll_format.specs.Words.{is_one_line}
 use Rattle.ll_item.specs.ItemLines.{item_line, with_id}
 use Rattle.ll_item.specs.Items.{item_in, last_milli, media_of}
 use Rattle.ll_item.specs.Media.{media_limit}
-use Rattle.ll_item.specs.Settings.{Configuration, limit_broken, settings_in}
+use Rattle.ll_settings.specs.Settings.{Configuration, limit_broken, settings_in}
 use Rattle.ll_item.specs.declared.item.Item.{Item}
 use Rattle.ll_item.specs.declared.item.Item.TheVariants.{Part, Init, Finish, Break, End, Range, Unrange}
 use Rattle.ll_entry.specs.SettingsLine.{settings_line}

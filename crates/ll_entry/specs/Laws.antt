@@ -1,7 +1,7 @@
 -- What is written of an entry is read again.
 use Rattle.std.specs.Prelude.{◌≡◌, None, Ok, true, false, bytes_eq}
 use Rattle.ll_format.specs.Words.{is_one_line}
-use Rattle.ll_item.specs.Settings.{Configuration, limit_broken}
+use Rattle.ll_settings.specs.Settings.{Configuration, limit_broken}
 use Rattle.ll_entry.specs.Entries.{entry_in}
 use Rattle.ll_entry.specs.Blank.{blank_entry}
 use Rattle.ll_entry.specs.Lines.{IsSpelled, entry_line}

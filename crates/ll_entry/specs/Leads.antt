@@ -11,7 +11,7 @@ use Rattle.ll_entry.specs.Frame.{header_text, last_line}
 use Rattle.ll_entry.specs.declared.version.Version.TheVariants.{Two}
 use Rattle.ll_entry.specs.declared.entry.Recorded.{Recorded}
 use Rattle.ll_format.specs.Words.{is_one_line}
-use Rattle.ll_item.specs.Settings.{Configuration, limit_broken}
+use Rattle.ll_settings.specs.Settings.{Configuration, limit_broken}
 use Rattle.ll_entry.specs.SettingsLine.{settings_line}
 use Rattle.ll_verdict.specs.Events.{Event}
 

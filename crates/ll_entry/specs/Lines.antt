@@ -4,8 +4,8 @@ use Rattle.ll_directive.specs.Files.{is_playlist}
 use Rattle.ll_directive.specs.Targets.{IsPlain, WantValue}
 use Rattle.ll_directive.specs.declared.want.Awaited.{Awaited}
 use Rattle.ll_directive.specs.declared.want.Awaited.TheVariants.{Nothing, Segment, Part}
-use Rattle.ll_item.specs.Names.{is_name}
-use Rattle.ll_item.specs.Settings.{Configuration}
+use Rattle.ll_settings.specs.Names.{is_name}
+use Rattle.ll_settings.specs.Settings.{Configuration}
 use Rattle.ll_item.specs.declared.skip_kind.SkipKind.{SkipKind}
 use Rattle.ll_entry.specs.ItemLaws.{IsWritable}
 use Rattle.ll_item.specs.ItemLines.{published_line}

@@ -8,7 +8,7 @@ use Rattle.ll_entry.specs.declared.version.Version.{Version}
 use Rattle.ll_entry.specs.declared.version.Version.TheVariants.{One, Two}
 use Rattle.ll_format.specs.Format.{Format, Word, ◌>>=◌, after_key, beside, one_of, to_end, up_to, whole}
 use Rattle.ll_format.specs.Words.{number, text_if}
-use Rattle.ll_item.specs.Names.{is_name}
+use Rattle.ll_settings.specs.Names.{is_name}
 use Rattle.ll_item.specs.declared.skip_kind.SkipKind.{SkipKind}
 use Rattle.ll_item.specs.declared.skip_kind.SkipKind.TheVariants.{Yes, V2}
 use Rattle.ll_item.specs.declared.what.What.{What}

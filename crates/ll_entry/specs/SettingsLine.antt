@@ -1,7 +1,7 @@
 -- How settings are spelled on a line.
 use Rattle.std.specs.Prelude.{ℕ, List, ◌++◌, codes, decimal}
 use Rattle.std.specs.List.{join_with_byte}
-use Rattle.ll_item.specs.Settings.{Configuration}
+use Rattle.ll_settings.specs.Settings.{Configuration}
 
 -- names of renditions, joined by commas
 abbrev pub names_text : List (List ℕ) → List ℕ

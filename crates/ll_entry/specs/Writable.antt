@@ -1,6 +1,6 @@
 -- The items that a channel accepts have lines of their own.
 use Rattle.std.specs.Prelude.{◌≡◌, List, None}
-use Rattle.ll_item.specs.Settings.{Configuration, limit_broken}
+use Rattle.ll_settings.specs.Settings.{Configuration, limit_broken}
 use Rattle.ll_item.specs.declared.item.Item.{Item}
 use Rattle.ll_verdict.specs.Full.{refusal_after}
 use Rattle.ll_item.specs.ItemLines.{IsTyped}

@@ -1,7 +1,7 @@
 //! How lines are read as entries.
 ghost use Rattle.std.specs.Prelude.{◌≡◌, ◌≢◌, ◌<◌, ◌≤◌, IfErr, IfOk, IsErrOf, IsOk, MatchOption, Ok, Err, IfSome, None, Some, [], is_some, true};
 ghost use Rattle.std.specs.Option.{option_map};
-ghost use Rattle.ll_item.specs.Names.{is_name};
+ghost use Rattle.ll_settings.specs.Names.{is_name};
 ghost use Rattle.ll_attr.specs.Words.{words};
 ghost use Rattle.ll_entry.specs.Entries as spec;
 ghost use Rattle.ll_entry.specs.Entries.{entry_in, publish_by, published};
@@ -14,7 +14,8 @@ use crate::words::{awaited, count, or_dash, or_held, outcome, update};
 use ll_attr::{Text, after, cut};
 use ll_directive::{Want, media_file};
 use ll_format::{number, until};
-use ll_item::{Item, MEDIA_LIMIT, Payload, Settings, SkipKind, What, cut_last, is_name};
+use ll_item::{Item, MEDIA_LIMIT, Payload, SkipKind, What, cut_last};
+use ll_settings::{Settings, is_name};
 use ll_verdict::Outcome;
 use std::alloc::Global;
 

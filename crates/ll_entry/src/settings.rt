@@ -3,7 +3,7 @@ ghost use Rattle.std.specs.Prelude.{◌≡◌, ◌++◌, ◌∷◌, IfOk, OnOk, 
 ghost use Rattle.ll_entry.specs.SettingsLine.{names_text, settings_line};
 
 use ll_attr::Text;
-use ll_item::Settings;
+use ll_settings::Settings;
 use std::alloc::{AllocError, Global};
 
 /// Returns the line that spells `settings`.

@@ -3,7 +3,7 @@
 ghost use Rattle.std.specs.Prelude.{◌≡◌, ◌≤◌, ◌+◌, ◌++◌, IfOk, MatchOption, OnOk, codes, false, decimal, length, string_bytes};
 ghost use Rattle.arrayvec.specs.ArrayString.{array_string_len};
 ghost use Rattle.ll_directive.specs.Files.{file_name, is_playlist};
-ghost use Rattle.ll_item.specs.Settings.{Configuration};
+ghost use Rattle.ll_settings.specs.Settings.{Configuration};
 ghost use Rattle.ll_item.specs.declared.what.What.TheVariants.{Playlist};
 ghost use Rattle.ll_entry.specs.Lines as spec;
 ghost use Rattle.ll_entry.specs.Lines.{IsSpelled, entry_line};
@@ -16,8 +16,9 @@ ghost use Rattle.ll_line.specs.Uris.{uri_text};
 use arrayvec::ArrayString;
 use itoa::Buffer;
 use ll_directive::{Awaited, Want};
-use ll_item::{Item, Settings, SkipKind, What};
+use ll_item::{Item, SkipKind, What};
 use ll_line::Uri;
+use ll_settings::Settings;
 use ll_verdict::Outcome;
 use std::alloc::{AllocError, Global};
 

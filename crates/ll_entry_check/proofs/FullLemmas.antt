@@ -8,7 +8,7 @@ use Rattle.ll_entry.specs.Told.{entry_after}
 use Rattle.ll_entry.specs.declared.entry.Recorded.{Recorded}
 use Rattle.ll_entry.specs.declared.entry.Recorded.TheVariants as recorded
 use Rattle.ll_entry.specs.declared.version.Version.TheVariants.{Two}
-use Rattle.ll_item.specs.Settings.{Configuration}
+use Rattle.ll_settings.specs.Settings.{Configuration}
 use Rattle.ll_room.specs.Answers.{collected_at}
 use Rattle.ll_room.specs.RoomValue.{RoomValue, Stands}
 use Rattle.ll_room.specs.StampedValue.{StampedValue}

@@ -1,6 +1,6 @@
 -- The reply of an event.
 use Rattle.std.specs.Prelude.{List, Option, None, option_map}
-use Rattle.ll_item.specs.Settings.{Configuration}
+use Rattle.ll_settings.specs.Settings.{Configuration}
 use Rattle.ll_verdict.specs.Events.{Event, Publish, Ask, Clock, Collect, Close}
 use Rattle.ll_verdict.specs.State.{state_of}
 use Rattle.ll_verdict.specs.Verdict.{at_once, held, reply_of}

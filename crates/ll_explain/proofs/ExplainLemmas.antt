@@ -24,7 +24,7 @@ use Rattle.ll_entry.specs.declared.version.Version.TheVariants.{Two}
 use Rattle.ll_explain.proofs.UpgradeLines.{full-is}
 use Rattle.ll_explain.specs.Explained.{HasNoEntry, IsExplained}
 use Rattle.ll_explain.specs.Seeking.{IsElsewhere, IsHere, time_after_entry, time_told}
-use Rattle.ll_item.specs.Settings.{Configuration}
+use Rattle.ll_settings.specs.Settings.{Configuration}
 use Rattle.ll_verdict.proofs.StepLemmas.{time-snoc}
 use Rattle.ll_verdict.specs.Events.{Event, later, time}
 use Rattle.ll_verdict.specs.declared.reply.Reply.{Reply}

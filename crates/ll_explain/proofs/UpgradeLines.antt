@@ -39,11 +39,11 @@ use Rattle.ll_format.specs.Format.{◌>>=◌, up_to}
 use Rattle.ll_item.specs.ItemLines.{counted_line}
 use Rattle.ll_item.specs.Items.{item_in}
 use Rattle.ll_item.specs.Media.{zeros}
-use Rattle.ll_item.specs.Names.{is_name, is_name_byte}
-use Rattle.ll_item.specs.Settings.{Configuration, configuration_of, limit_broken, settings_by, settings_in, unless_broken}
+use Rattle.ll_settings.specs.Names.{is_name, is_name_byte}
+use Rattle.ll_settings.specs.Settings.{Configuration, configuration_of, limit_broken, settings_by, settings_in, unless_broken}
 use Rattle.ll_item.specs.declared.item.Item.{Item}
 use Rattle.ll_item.specs.declared.item.ItemFault.{ItemFault}
-use Rattle.ll_item.specs.declared.settings.SettingsFault.{SettingsFault}
+use Rattle.ll_settings.specs.declared.settings.SettingsFault.{SettingsFault}
 use Rattle.ll_item.specs.declared.skip_kind.SkipKind.{SkipKind}
 use Rattle.ll_item.specs.declared.skip_kind.SkipKind.TheVariants.{V2, Yes}
 use Rattle.ll_item.specs.declared.what.What.TheVariants as what

@@ -25,7 +25,7 @@ use Rattle.ll_entry.specs.Told.{as_told}
 use Rattle.ll_entry.specs.declared.version.Version.{Version}
 use Rattle.ll_entry.specs.declared.version.Version.TheVariants.{Two}
 use Rattle.ll_format.proofs.FormatLaws.{lacks}
-use Rattle.ll_item.specs.Settings.{Configuration, limit_broken}
+use Rattle.ll_settings.specs.Settings.{Configuration, limit_broken}
 use Rattle.ll_verdict.specs.Events.{Event, steps_from}
 
 -- ---- lines are cut where they end

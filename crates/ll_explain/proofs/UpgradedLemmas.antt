@@ -17,7 +17,7 @@ use Rattle.ll_entry.specs.Leads.{with_end}
 use Rattle.ll_entry.specs.declared.entry.Recorded.{Recorded}
 use Rattle.ll_entry.specs.declared.fault.CheckKind.{CheckKind}
 use Rattle.ll_entry.specs.declared.version.Version.TheVariants.{Two}
-use Rattle.ll_item.specs.Settings.{Configuration}
+use Rattle.ll_settings.specs.Settings.{Configuration}
 
 entry_text : (f : FullEntry → List ℕ) (o : Option Recorded) (e : FullEntry) → option_map without_item o ≡ Some e
     → option_map_or (λ entry. with_end (f (without_item entry))) o [] ≡ with_end (f e)

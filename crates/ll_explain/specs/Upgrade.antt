@@ -19,7 +19,7 @@ use Rattle.ll_entry.specs.declared.entry.Recorded.TheVariants.{Ask, Collect}
 use Rattle.ll_entry.specs.declared.fault.CheckKind.{CheckKind}
 use Rattle.ll_entry.specs.declared.version.Version.{Version}
 use Rattle.ll_entry.specs.declared.version.Version.TheVariants.{One, Two}
-use Rattle.ll_item.specs.Settings.{Configuration}
+use Rattle.ll_settings.specs.Settings.{Configuration}
 
 -- what follows the words of an item in format 2: after a part the length of its media, which is 0
 abbrev pub media_text : List ℕ → List ℕ

@@ -4,7 +4,7 @@ ghost use Rattle.ll_attr.specs.Words.{pieces_at};
 ghost use Rattle.ll_entry.specs.Chain.{Between, checked, checked_from, not_before};
 ghost use Rattle.ll_explain.specs.Upgrade as spec;
 ghost use Rattle.ll_explain.specs.Upgrade.{told_text, upgraded, upgraded_line};
-ghost use Rattle.ll_item.specs.Settings.{Configuration};
+ghost use Rattle.ll_settings.specs.Settings.{Configuration};
 
 use ll_attr::after;
 use ll_check::{Checker, Told};

@@ -1,7 +1,7 @@
 -- The totals of the channels so far, with that of one more.
 use Rattle.std.proofs.Common.{◌≡◌, ◌&&◌, ℕ, Bool, true, false, zero, suc, List, [], ◌∷◌, ◌++◌, Some, length, slice_get, subst}
 use Rattle.std.specs.Prelude.{IsTrue}
-use Rattle.ll_item.specs.Settings.{Configuration}
+use Rattle.ll_settings.specs.Settings.{Configuration}
 use Rattle.ll_record.specs.Recording.{Recording}
 use Rattle.ll_hub.specs.Calls.{AreTotals}
 use Rattle.ll_hub_channel.specs.Section.{IsAt}

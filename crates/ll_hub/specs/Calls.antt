@@ -1,7 +1,7 @@
 -- The results of a hub's calls. A hub is the settings of its channels, a pass what its caller has seen of each.
 use Rattle.std.specs.Prelude.{◌≡◌, ◌≢◌, ◌<◌, ◌≤◌, ℕ, ⊤, List, Option, Some, None, length, slice_get}
 use Rattle.ll_directive.specs.Targets.{WantValue}
-use Rattle.ll_item.specs.Settings.{Configuration}
+use Rattle.ll_settings.specs.Settings.{Configuration}
 use Rattle.ll_item.specs.declared.item.Item.{Item}
 use Rattle.ll_room.specs.StampedValue.{StampedValue}
 use Rattle.ll_room.specs.declared.stamped.Stamp.TheVariants as stamp

@@ -1,6 +1,6 @@
 -- For private contracts: why a section of a channel refuses a call that is counted, and what it hands to a sink.
 use Rattle.std.specs.Prelude.{◌≡◌, ℕ, ⊤, List, Option}
-use Rattle.ll_item.specs.Settings.{Configuration}
+use Rattle.ll_settings.specs.Settings.{Configuration}
 use Rattle.ll_item.specs.declared.item.Item.{Item}
 use Rattle.ll_record.specs.Chunk.{ChunkValue, IsChunk, IsFaithful}
 use Rattle.ll_record.specs.Recording.{IsRecorded, Recording}

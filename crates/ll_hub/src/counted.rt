@@ -18,9 +18,10 @@ use ll_hub_channel::{
     Asks, AtOnce, Channel, ChannelCounts, Clock, HubFault, Known, Ledgers, PassCounts, Publishes,
     Tally, Total, Tried,
 };
-use ll_item::{Item, Settings};
+use ll_item::Item;
 use ll_record::{Chunk, Sink};
 use ll_room::Stamped;
+use ll_settings::Settings;
 use ll_verdict::{ClockFault, Entry, Standing};
 use std::alloc::{AllocError, Global};
 use std::marker::Model;

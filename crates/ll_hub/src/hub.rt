@@ -1,6 +1,6 @@
 //! The hub: a lock for each channel, and the totals of what its callers count.
 ghost use Rattle.std.specs.Prelude.{◌≡◌, ◌+◌, ◌≤◌, [], None, Some, IfErr, IfOk, MatchOption, OnErr, OnOk, false, length, map, slice_get, sum, vec_capacity};
-ghost use Rattle.ll_item.specs.Channels.{channel_of_name};
+ghost use Rattle.ll_settings.specs.Channels.{channel_of_name};
 ghost use Rattle.ll_hub.specs.Calls as calls;
 ghost use Rattle.ll_hub.specs.Passes.{new_pass};
 ghost use Rattle.ll_hub.specs.Rung.{IsRung, IsRungBy, IsRungFrom, IsRungTo};
@@ -16,9 +16,10 @@ use ll_hub_channel::{
     Asks, AtOnce, Blanks, ChannelCounts, Clock, HubFault, Ledgers, Opened, PassCounts, Publishes,
     RoomFault, Seats, Total,
 };
-use ll_item::{Item, Settings};
+use ll_item::Item;
 use ll_record::{Chunk, Sink};
 use ll_room::Stamped;
+use ll_settings::Settings;
 use ll_verdict::{Reply, Standing};
 use std::alloc::{AllocError, Global};
 use std::marker::Model;
@@ -55,7 +56,7 @@ pub struct Hub<L: Ledgers> {
 
 impl<L: Ledgers> Model for Hub<L> {
     ghost use Rattle.std.specs.Prelude.{◌≡◌, List, length};
-    ghost use Rattle.ll_item.specs.Settings.{Configuration};
+    ghost use Rattle.ll_settings.specs.Settings.{Configuration};
 
     ghost Value = { List Configuration };
 

@@ -4,15 +4,15 @@ ghost use Rattle.std.specs.Sync.Mutex.{mutex_guard_value};
 ghost use Rattle.ll_hub.specs.Rung.{IsRung, Rings};
 ghost use Rattle.ll_hub_channel.specs.Section.{IsAt};
 ghost use Rattle.ll_hub_channel.specs.Told.{IsDecided, IsReadingRefused, IsTotal};
-ghost use Rattle.ll_item.specs.Settings.{Configuration};
+ghost use Rattle.ll_settings.specs.Settings.{Configuration};
 ghost use Rattle.ll_room.specs.declared.stamped.Stamp.TheVariants as stamp;
 ghost use Rattle.ll_verdict.specs.Waiting.{is_ready};
 
 use crate::bell::Bell;
 use crate::counted::Counted;
 use ll_hub_channel::{ChannelCounts, HubFault, Known, Ledgers, Total, Tried};
-use ll_item::Channels;
 use ll_room::Stamped;
+use ll_settings::Channels;
 use ll_verdict::{ClockFault, Entry, Reply};
 use std::sync::atomic::{AtomicU64, AtomicUsize, Ordering};
 use std::sync::{Condvar, Mutex, MutexGuard, Wait};

@@ -4,7 +4,7 @@ ghost use Rattle.ll_hub.specs.Calls as calls;
 ghost use Rattle.ll_hub.specs.Rung.{IsRung};
 ghost use Rattle.ll_hub_channel.specs.Ledgers.{blank};
 ghost use Rattle.ll_hub_channel.specs.Told.{IsReadingRefused};
-ghost use Rattle.ll_item.specs.Channels.{channel_of_name};
+ghost use Rattle.ll_settings.specs.Channels.{channel_of_name};
 ghost use Rattle.ll_room.specs.RoomValue.{room_value};
 ghost use Rattle.ll_verdict.specs.State.{state_of};
 
@@ -12,7 +12,7 @@ use crate::bell::Bell;
 use crate::counted::Counted;
 use crate::lock::ChannelLock;
 use ll_hub_channel::{ChannelCounts, HubFault, Known, Ledgers, Total};
-use ll_item::{Channels, Settings};
+use ll_settings::{Channels, Settings};
 use ll_verdict::ClockFault;
 use std::alloc::{AllocError, Global};
 use std::marker::Model;
@@ -27,7 +27,7 @@ pub(crate) struct ChannelLocks<L: Ledgers> {
 
 impl<L: Ledgers> Model for ChannelLocks<L> {
     ghost use Rattle.std.specs.Prelude.{◌≡◌, List, length, vec_len};
-    ghost use Rattle.ll_item.specs.Settings.{Configuration};
+    ghost use Rattle.ll_settings.specs.Settings.{Configuration};
 
     ghost Value = { List Configuration };
 

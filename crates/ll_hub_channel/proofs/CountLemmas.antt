@@ -2,7 +2,7 @@
 use Rattle.std.proofs.Common.{◌≡◌, ◌+◌, List, [], ◌∷◌, ◌++◌, Option, None, if◌then◌else◌, is_none, ap, ◌∙◌, sym, length, arith}
 use Rattle.std.proofs.lemmas.List.{length-append}
 use Rattle.ll_directive.specs.Targets.{WantValue}
-use Rattle.ll_item.specs.Settings.{Configuration}
+use Rattle.ll_settings.specs.Settings.{Configuration}
 use Rattle.ll_item.specs.declared.item.Item.{Item}
 use Rattle.ll_record.specs.Recording.{IsRecorded, Recording, is_record_full, record_refusal}
 use Rattle.ll_verdict.specs.Full.{full_by, is_full, refusal_after}

@@ -1,7 +1,7 @@
 -- Why a channel refuses a reading or a request, and what that says of the recorded events.
 use Rattle.std.proofs.Common.{◌≡◌, ◌≤◌, ◌<◌, ◌^◌, ℕ, List, true, false, Result, Ok, Err, refl}
 use Rattle.std.specs.Prelude.{IfErr, IsErrOf}
-use Rattle.ll_item.specs.Settings.{Configuration}
+use Rattle.ll_settings.specs.Settings.{Configuration}
 use Rattle.ll_record.specs.Recording.{Recording}
 use Rattle.ll_verdict.specs.declared.fault.ClockFault.{ClockFault}
 use Rattle.ll_verdict.specs.declared.fault.ClockFault.TheVariants as reading

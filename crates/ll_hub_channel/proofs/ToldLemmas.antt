@@ -5,7 +5,7 @@ use Rattle.std.proofs.lemmas.List.{append_cancel_right, map-append}
 use Rattle.std.specs.List.{list_any}
 use Rattle.ll_verdict.specs.Waiting.{entry_in, found, has_ticket, is_ready_at, reply_at, settled_in, ticket_in}
 use Rattle.ll_directive.specs.Targets.{WantValue}
-use Rattle.ll_item.specs.Settings.{Configuration}
+use Rattle.ll_settings.specs.Settings.{Configuration}
 use Rattle.ll_item.specs.declared.item.Item.{Item}
 use Rattle.ll_record.specs.Recording.{IsRecorded, Recording, is_record_full, of_channel, record_refusal}
 use Rattle.ll_room.proofs.TicketLemmas.{distinct_less, distinct_more, newest_is_new}

@@ -2,7 +2,7 @@
 use Rattle.std.specs.Prelude.{◌≡◌, ◌≢◌, ◌≤◌, ◌<◌, ◌^◌, ℕ, ◌+◌, Bool, List, [], ◌∷◌, ◌++◌, None, Some, find, is_some, option_map, false, true, ⊤}
 use Rattle.ll_verdict.specs.Waiting.{entry_in, found, is_ready_at}
 use Rattle.ll_directive.specs.Targets.{WantValue}
-use Rattle.ll_item.specs.Settings.{Configuration}
+use Rattle.ll_settings.specs.Settings.{Configuration}
 use Rattle.ll_item.specs.declared.item.Item.{Item}
 use Rattle.ll_record.specs.Recording.{IsRecorded, Recording, of_channel, record_refusal}
 use Rattle.ll_verdict.specs.declared.fault.ClockFault.{ClockFault}

@@ -1,9 +1,10 @@
 //! The expected answers of a channel. Its items are kept here, apart from the hub and without a room: playlists are those that the definitions give
 //! for what is kept, and media is made of the bytes that came with the items.
 use crate::rows::push;
-use ll_item::{Item, Settings};
+use ll_item::Item;
 use ll_page::{Page, Rendition, Shown, SkipKind};
 use ll_range::Ranges;
+use ll_settings::Settings;
 use ll_window::Window;
 use std::alloc::Global;
 use std::fmt::Write;

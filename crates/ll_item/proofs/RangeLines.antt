@@ -13,7 +13,7 @@ use Rattle.ll_attr.proofs.Firsts.{is_formed, first_formed, first_spelled}
 use Rattle.ll_attr.proofs.Spelled.{written_again}
 use Rattle.ll_attr.proofs.Joined.{joined_words, some_word}
 use Rattle.ll_item.specs.Items.{range_in, unrange_in, range_at, unrange_at, named, range_of, range_with}
-use Rattle.ll_item.specs.Settings.{Configuration}
+use Rattle.ll_settings.specs.Settings.{Configuration}
 use Rattle.ll_item.specs.declared.item.Item.{Item}
 use Rattle.ll_item.specs.declared.item.Item.TheVariants.{Range}
 use Rattle.ll_item.specs.declared.item.ItemFault.TheVariants.{BadAttribute}

@@ -1,5 +1,5 @@
 -- The items that a publisher announces, and the lines that spell them.
-use Rattle.std.specs.Prelude.{ℕ, List, [], ◌∷◌, Bool, true, false, Option, Some, None, Result, Ok, Err, if◌then◌else◌, ◌==◌, nat_le, option_and_then, length, position, bytes_eq, codes}
+use Rattle.std.specs.Prelude.{ℕ, List, [], ◌∷◌, Bool, true, false, Option, Some, None, Result, Ok, Err, if◌then◌else◌, ◌==◌, nat_le, option_and_then, length, bytes_eq, codes}
 use Rattle.ll_attr.specs.Numbers.{number_in}
 use Rattle.ll_attr.specs.Words.{words, joined}
 use Rattle.ll_attr.specs.Attributes.{attributes_in}
@@ -8,8 +8,8 @@ use Rattle.ll_attr.specs.declared.attributes.AttrFault.{AttrFault}
 use Rattle.ll_attr.specs.declared.attributes.AttrValue.{AttrValue}
 use Rattle.ll_attr.specs.declared.attributes.AttrValue.TheVariants.{Quoted, Bare}
 use Rattle.ll_item.specs.Media.{zeros}
-use Rattle.ll_item.specs.Names.{is_name}
-use Rattle.ll_item.specs.Settings.{Configuration}
+use Rattle.ll_settings.specs.Names.{is_name}
+use Rattle.ll_settings.specs.Settings.{Configuration, rendition_named}
 use Rattle.ll_item.specs.declared.item.Item.{Item}
 use Rattle.ll_item.specs.declared.item.Item.TheVariants.{Part, Init, Finish, Break, End, Range, Unrange}
 use Rattle.ll_item.specs.declared.item.ItemFault.{ItemFault}
@@ -54,10 +54,6 @@ is_about_ranges (Break rendition time) = false
 is_about_ranges (End rendition) = false
 is_about_ranges (Range rendition id attributes) = true
 is_about_ranges (Unrange rendition id) = true
-
--- the index of the rendition with this name
-abbrev pub rendition_named : Configuration → List ℕ → Option ℕ
-rendition_named c name = position (bytes_eq name) c.renditions
 
 -- the flags of a part: whether it is independent, and whether it finishes its segment
 abbrev pub flags_text : Bool → Bool → List ℕ

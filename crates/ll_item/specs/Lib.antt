@@ -1,12 +1,6 @@
 pub mod Announced
-pub mod ChannelPlaces
-pub mod Channels
-pub mod Configured
 pub mod Contents
 pub mod ItemLines
 pub mod Items
 pub mod Media
-pub mod Names
-pub mod Settings
-pub mod Same
 pub mod Told

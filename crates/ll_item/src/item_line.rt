@@ -2,15 +2,17 @@
 ghost use Rattle.std.specs.Prelude.{◌≡◌, ◌≢◌, ◌∷◌, [], ℕ, List, MatchOption, IfOk, IfErr, IsOk, IsErrOf, Ok, Err};
 ghost use Rattle.ll_attr.specs.Attributes.{attributes_in};
 ghost use Rattle.ll_attr.specs.Words.{words};
-ghost use Rattle.ll_item.specs.Settings.{Configuration};
+ghost use Rattle.ll_settings.specs.Settings.{Configuration};
 ghost use Rattle.ll_item.specs.Items.{item_in, part_in, alone_in, flags_in, range_in, unrange_in};
 ghost use Rattle.ll_item.specs.Items as spec;
 
 use crate::item::{Item, ItemFault, PartItem};
 use crate::media::{Media, Payload};
-use crate::settings::Settings;
-use crate::words::one_word;
-use ll_attr::{AttrFault, AttrList, AttrValue, Attribute, Text, after, cut, parse_number};
+use crate::named::named;
+use ll_attr::{
+    AttrFault, AttrList, AttrValue, Attribute, Text, after, cut, one_word, parse_number,
+};
+use ll_settings::Settings;
 use std::alloc::Global;
 
 /// The last millisecond of the year 9999, counted from 1970-01-01T00:00:00Z.
@@ -85,7 +87,7 @@ fn read_break(settings: &Settings, text: &str) -> Result<Item, ItemFault>
     ensures not_memory { IfErr result (λ fault. fault ≢ ItemFault.Memory) }
 {
     let Some((name, time)) = cut(text, ' ') else {
-        let rendition = settings.named(text)?;
+        let rendition = named(settings, text)?;
         return Ok(Item::Break {
             rendition,
             time: None,
@@ -97,7 +99,7 @@ fn read_break(settings: &Settings, text: &str) -> Result<Item, ItemFault>
     let Some(time) = break_time(time) else {
         return Err(ItemFault::BadLine);
     };
-    let rendition = settings.named(name)?;
+    let rendition = named(settings, name)?;
     Ok(Item::Break {
         rendition,
         time: Some(time),
@@ -144,7 +146,7 @@ fn read_part(
     let Some((independent, finish)) = part_flags(flags) else {
         return Err(ItemFault::BadLine);
     };
-    let rendition = settings.named(name)?;
+    let rendition = named(settings, name)?;
     Ok(Item::Part(PartItem {
         rendition,
         duration,
@@ -209,7 +211,7 @@ fn read_range(alloc: Global, settings: &Settings, text: &str) -> Result<Item, It
     let Some((name, list)) = cut(text, ' ') else {
         return Err(ItemFault::BadLine);
     };
-    let rendition = settings.named(name)?;
+    let rendition = named(settings, name)?;
     range_from(alloc, rendition, list)
 }
 
@@ -262,7 +264,7 @@ fn read_unrange(alloc: Global, settings: &Settings, text: &str) -> Result<Item, 
     let Some((name, id)) = cut(text, ' ') else {
         return Err(ItemFault::BadLine);
     };
-    let rendition = settings.named(name)?;
+    let rendition = named(settings, name)?;
     let id = Text::from_str(alloc, id)?;
     Ok(Item::Unrange { rendition, id })
 }
@@ -273,7 +275,7 @@ fn read_alone(settings: &Settings, text: &str) -> Result<usize, ItemFault>
     ensures not_memory { IfErr result (λ fault. fault ≢ ItemFault.Memory) }
 {
     match one_word(text) {
-        Some(name) => settings.named(name),
+        Some(name) => named(settings, name),
         None => Err(ItemFault::BadLine),
     }
 }

@@ -6,8 +6,8 @@ ghost use Rattle.ll_item.specs.ItemLines as spec;
 ghost use Rattle.ll_item.specs.ItemLines.{HasAttributes, IsTyped, item_line, line_text, published_line};
 
 use crate::item::{Item, PartItem};
-use crate::settings::Settings;
 use ll_attr::AttrList;
+use ll_settings::Settings;
 use std::alloc::AllocError;
 use std::fmt;
 

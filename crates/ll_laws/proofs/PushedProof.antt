@@ -9,11 +9,11 @@ use Rattle.ll_entry.proofs.ItemBack.{item_back}
 use Rattle.ll_entry.proofs.Names.{name_at}
 use Rattle.ll_item.specs.ItemLines.{item_line, name_of}
 use Rattle.ll_item.specs.Items.{media_of}
-use Rattle.ll_item.specs.Names.{is_name}
-use Rattle.ll_item.specs.Settings.{Configuration, IsWithin}
+use Rattle.ll_settings.specs.Names.{is_name}
+use Rattle.ll_settings.specs.Settings.{Configuration, IsWithin}
 use Rattle.ll_item.specs.declared.item.Item.{Item}
 use Rattle.ll_item.specs.declared.item.Item.TheVariants.{Part, Init, Finish, Break, End}
-use Rattle.ll_item.proofs.WithinLimits.{within}
+use Rattle.ll_settings.proofs.WithinLimits.{within}
 use Rattle.ll_mp4.specs.declared.fault.StreamFault.{StreamFault}
 use Rattle.ll_parts.specs.Stream.{Outcome}
 use Rattle.ll_parts.specs.declared.pieces.MediaPart.{MediaPart}

@@ -6,7 +6,7 @@ use Rattle.ll_format.specs.Format.{Where}
 use Rattle.ll_format.specs.Words.{duration_end}
 use Rattle.ll_line.specs.Formats.{largest_number, line}
 use Rattle.ll_line.specs.Line.{Skip, Report, First, Version, TargetDuration, PartTarget, MediaSequence, DiscontinuitySequence, DateRange, RenditionReport}
-use Rattle.ll_item.specs.Settings.{Configuration, IsWithin, skip_limit}
+use Rattle.ll_settings.specs.Settings.{Configuration, IsWithin, skip_limit}
 use Rattle.ll_item.specs.declared.item.Item.{Item}
 use Rattle.ll_window.specs.Compact.{compact, unfinished}
 use Rattle.ll_item.specs.Told.{end_time, Listed, told}

@@ -4,7 +4,7 @@ use Rattle.std.proofs.lemmas.Bool.Decides.{nat_tests}
 use Rattle.std.proofs.lemmas.List.{length-drop}
 use Rattle.ll_line.specs.Formats.{largest_number}
 use Rattle.ll_line.specs.Line.{Report}
-use Rattle.ll_item.specs.Settings.{Configuration, IsWithin, skip_limit}
+use Rattle.ll_settings.specs.Settings.{Configuration, IsWithin, skip_limit}
 use Rattle.ll_item.specs.declared.item.Item.{Item}
 use Rattle.ll_window.specs.Compact.{compact, skip_count}
 use Rattle.ll_window.specs.Rows.{Row}

@@ -20,7 +20,7 @@ use Rattle.ll_item.specs.Announced.{announced, announced_by, cut_by, has_bytes, 
 use Rattle.ll_item.specs.Items.{flags_text}
 use Rattle.ll_item.specs.ItemLines.{break_line, counted_line, end_line, finish_line, init_line, part_line, timed_break_line}
 use Rattle.ll_item.specs.Media.{media_limit}
-use Rattle.ll_item.specs.Names.{is_name, is_name_byte}
+use Rattle.ll_settings.specs.Names.{is_name, is_name_byte}
 use Rattle.ll_item.proofs.LastWord.{cut-is, told-has, words-more}
 use Rattle.ll_entry.proofs.Cuts.{AreWords, IsWord, also, no_more, uncut, words_back}
 use Rattle.ll_entry.proofs.Names.{name-word}

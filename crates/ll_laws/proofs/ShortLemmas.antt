@@ -1,7 +1,7 @@
 -- No segment, and no part of one, lasts longer than all parts together; and there are no more breaks than segments.
 use Rattle.std.proofs.Common.{ℕ, ◌+◌, ◌*◌, ◌≤◌, List, [], ◌∷◌, Bool, true, false, cond, nat_le, nat_lt, length, ap, arith}
 use Rattle.std.proofs.lemmas.List.{length-append}
-use Rattle.ll_item.specs.Settings.{Configuration}
+use Rattle.ll_settings.specs.Settings.{Configuration}
 use Rattle.ll_item.specs.declared.item.Item.{Item}
 use Rattle.ll_item.specs.declared.part.Part.{Part}
 use Rattle.ll_window.specs.Compact.{compact, all_rows}

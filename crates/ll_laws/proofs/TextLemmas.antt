@@ -8,7 +8,7 @@ use Rattle.std.specs.Char.{is_ascii}
 use Rattle.std.specs.Fmt.{digits, digits_onto, digit_glyph}
 use Rattle.std.specs.List.{list_all}
 use Rattle.ll_attr.specs.Attributes.{is_quoted_byte}
-use Rattle.ll_item.specs.Names as names
+use Rattle.ll_settings.specs.Names as names
 use Rattle.ll_format.specs.Calendar.{CivilDate, nth_date}
 use Rattle.ll_format.specs.Times.{digits_2, digits_3, digits_4, time_of, time_text}
 use Rattle.ll_line.specs.Uris.{segment_uri, part_uri, map_uri, report_uri}

@@ -1,6 +1,6 @@
 -- The law on texts comes from the law on playlists: what was published is read back from its text.
 use Rattle.std.proofs.Common.{List, [], ◌∷◌, ◌++◌, refl}
-use Rattle.ll_item.specs.Settings.{Configuration}
+use Rattle.ll_settings.specs.Settings.{Configuration}
 use Rattle.ll_item.specs.declared.item.Item.{Item}
 use Rattle.ll_page.specs.Delta.{delta_playlist}
 use Rattle.ll_page.specs.Full.{full_playlist}

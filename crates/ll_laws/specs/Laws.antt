@@ -1,6 +1,6 @@
 -- Laws of full playlists and delta updates of published items.
 use Rattle.std.specs.Prelude.{◌≡◌, ℕ, ◌+◌, ◌*◌, ◌≤◌, ◌<◌, List, [], ◌++◌, Some, Ok, length}
-use Rattle.ll_item.specs.Settings.{Configuration, IsWithin, skip_limit}
+use Rattle.ll_settings.specs.Settings.{Configuration, IsWithin, skip_limit}
 use Rattle.ll_item.specs.declared.item.Item.{Item}
 use Rattle.ll_item.specs.Told.{end_time}
 use Rattle.ll_window.specs.Segments.{own}

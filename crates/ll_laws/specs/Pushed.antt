@@ -1,10 +1,10 @@
 -- What `llhls push` sends, as an origin reads it, and what an origin answers, as `llhls push` reads that.
 use Rattle.std.specs.Prelude.{◌≡◌, ℕ, ◌<◌, ◌≤◌, ◌^◌, ◌==◌, Bool, true, false, All, List, [], ◌∷◌, ◌++◌, Option, Some, None, Result, Ok, Err, if◌then◌else◌, length, map, not}
-use Rattle.ll_item.specs.Channels.{channel_of_name}
+use Rattle.ll_settings.specs.Channels.{channel_of_name}
 use Rattle.ll_item.specs.ItemLines.{name_of}
 use Rattle.ll_item.specs.Items.{item_in}
 use Rattle.ll_entry.specs.ItemLaws.{IsWritable}
-use Rattle.ll_item.specs.Settings.{Configuration, limit_broken}
+use Rattle.ll_settings.specs.Settings.{Configuration, limit_broken}
 use Rattle.ll_item.specs.declared.item.Item.{Item}
 use Rattle.ll_item.specs.declared.item.Item.TheVariants.{Part, Init, Finish, Break, End}
 use Rattle.ll_item.specs.declared.item.ItemFault.{ItemFault}

@@ -3,16 +3,16 @@ use Rattle.std.proofs.Common.{◌≡◌, ◌≢◌, ℕ, inr, List, Option, Some
 use Rattle.std.proofs.lemmas.Option.{same_Some}
 use Rattle.std.specs.Prelude.{slice_get}
 use Rattle.ll_hub.specs.Calls.{IsItemRefused, IsPlace, IsPublishFault}
-use Rattle.ll_item.proofs.ChannelLemmas.{named-within}
+use Rattle.ll_settings.proofs.ChannelLemmas.{named-within}
 use Rattle.ll_item.specs.declared.item.Item.{Item}
 use Rattle.ll_item.specs.declared.item.ItemFault.{ItemFault}
 use Rattle.ll_publish.specs.Refusals.{item_refusal, out_of_memory}
 use Rattle.ll_publish.specs.declared.refusal.Refusal.{Refusal}
 use Rattle.ll_publish.specs.declared.refusal.Refusal.TheVariants as refusal
 use Rattle.ll_rendition.specs.declared.fault.PublishFault.{PublishFault}
-use Rattle.ll_item.specs.Channels.{channel_of_name}
+use Rattle.ll_settings.specs.Channels.{channel_of_name}
 use Rattle.ll_item.specs.Items.{item_in, named}
-use Rattle.ll_item.specs.Settings.{Configuration}
+use Rattle.ll_settings.specs.Settings.{Configuration}
 use Rattle.ll_hub_channel.specs.Told.{IsRefused, IsStanding}
 use Rattle.ll_hub_channel.specs.declared.fault.HubFault.{HubFault}
 use Rattle.ll_hub_channel.specs.declared.fault.HubFault.TheVariants as hub

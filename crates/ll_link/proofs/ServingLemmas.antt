@@ -9,7 +9,7 @@ use Rattle.ll_device.proofs.WriteLemmas.{AppendsPrefix-after}
 use Rattle.ll_device.specs.Inward.{Inward, looked_at}
 use Rattle.ll_device.specs.Written.{AppendsPrefix}
 use Rattle.ll_hub.specs.Passes.{PassValue}
-use Rattle.ll_item.specs.Settings.{Configuration}
+use Rattle.ll_settings.specs.Settings.{Configuration}
 use Rattle.ll_publish.proofs.StreamLaws.{none_is_left, whole_streams}
 use Rattle.ll_publish.specs.Line.{Line}
 use Rattle.ll_publish.specs.Lines.{FeedValue, fresh, front, lines, lines_in, with_bytes}

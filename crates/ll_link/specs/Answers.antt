@@ -2,10 +2,10 @@
 use Rattle.std.specs.Prelude.{◌≡◌, ◌≢◌, ◌⊎◌, ℕ, List, Option, Some, None, Result, Ok, Err, if◌then◌else◌, length, nat_le, slice_get}
 use Rattle.ll_item.specs.Items.{item_in, named}
 use Rattle.ll_item.specs.Media.{media_limit}
-use Rattle.ll_item.specs.Settings.{Configuration}
+use Rattle.ll_settings.specs.Settings.{Configuration}
 use Rattle.ll_item.specs.declared.item.Item.{Item}
 use Rattle.ll_item.specs.declared.item.ItemFault.{ItemFault}
-use Rattle.ll_item.specs.Channels.{channel_of_name}
+use Rattle.ll_settings.specs.Channels.{channel_of_name}
 use Rattle.ll_publish.specs.Line as says
 use Rattle.ll_publish.specs.Refusals.{item_refusal, out_of_memory}
 use Rattle.ll_publish.specs.declared.refusal.Refusal.{Refusal}

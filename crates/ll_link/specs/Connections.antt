@@ -4,7 +4,7 @@ use Rattle.ll_device.specs.Inward.{Inward}
 use Rattle.ll_directive.specs.Targets.{WantValue}
 use Rattle.ll_hub.specs.Calls.{IsAnsweredNow, IsReplied}
 use Rattle.ll_hub.specs.Claim.{ClaimValue}
-use Rattle.ll_item.specs.Settings.{Configuration}
+use Rattle.ll_settings.specs.Settings.{Configuration}
 use Rattle.ll_room.specs.StampedValue.{StampedValue}
 use Rattle.ll_session.specs.Talk.{SessionValue, replied}
 use Rattle.ll_verdict.specs.declared.reply.Reply.{Reply}

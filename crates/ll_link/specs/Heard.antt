@@ -1,8 +1,8 @@
 -- What a publisher's pass has seen and counted once its lines were answered.
 use Rattle.std.specs.Prelude.{ℕ, ◌+◌, List, Option, Some, None, Result, Ok, Err}
 use Rattle.ll_hub.specs.Passes.{PassValue, noted}
-use Rattle.ll_item.specs.Channels.{channel_of_name}
-use Rattle.ll_item.specs.Settings.{Configuration}
+use Rattle.ll_settings.specs.Channels.{channel_of_name}
+use Rattle.ll_settings.specs.Settings.{Configuration}
 use Rattle.ll_publish.specs.Line as says
 use Rattle.ll_publish.specs.declared.refusal.Refusal.{Refusal}
 use Rattle.ll_publish.specs.declared.success.Success.{Success}

@@ -4,7 +4,7 @@ use Rattle.std.specs.Io.KnownBytes.{Appends}
 use Rattle.ll_device.specs.Inward.{Inward, looked_at}
 use Rattle.ll_device.specs.Written.{AppendsPrefix}
 use Rattle.ll_hub.specs.Passes.{PassValue}
-use Rattle.ll_item.specs.Settings.{Configuration}
+use Rattle.ll_settings.specs.Settings.{Configuration}
 use Rattle.ll_publish.specs.Line.{Line}
 use Rattle.ll_publish.specs.Lines.{lines}
 use Rattle.ll_publish.specs.Refusals.{reply_line}

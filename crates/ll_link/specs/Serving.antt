@@ -3,7 +3,7 @@ use Rattle.std.specs.Prelude.{◌≡◌, ℕ, List, [], ◌++◌, Option}
 use Rattle.std.specs.Io.KnownBytes.{Appends}
 use Rattle.ll_device.specs.Written.{AppendsPrefix}
 use Rattle.ll_hub.specs.Passes.{PassValue}
-use Rattle.ll_item.specs.Settings.{Configuration}
+use Rattle.ll_settings.specs.Settings.{Configuration}
 use Rattle.ll_publish.specs.Line.{Line}
 use Rattle.ll_publish.specs.Lines.{FeedValue, lines_in}
 use Rattle.ll_publish.specs.Past.{Call, past}

@@ -1,8 +1,8 @@
 //! A player's request, as the hub answers it.
 ghost use Rattle.std.specs.Prelude.{◌≡◌, ℕ, Err, IfErr, IfOk, MatchResult, None, Ok, Some};
 ghost use Rattle.ll_hub.specs.Calls.{IsAskedOf, IsClaimed};
-ghost use Rattle.ll_item.specs.Channels.{channel_of_name};
-ghost use Rattle.ll_item.specs.Settings.{Configuration};
+ghost use Rattle.ll_settings.specs.Channels.{channel_of_name};
+ghost use Rattle.ll_settings.specs.Settings.{Configuration};
 ghost use Rattle.ll_link.specs.Answers.{unavailable_by};
 ghost use Rattle.ll_link.specs.Connections.{IsToldAt};
 ghost use Rattle.ll_link.specs.Faults.{IsOwn};

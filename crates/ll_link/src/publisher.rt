@@ -8,7 +8,7 @@ ghost use Rattle.ll_item.specs.Media.{media_limit};
 ghost use Rattle.ll_publish.specs.Line as says;
 ghost use Rattle.ll_publish.specs.Meaning.{meant};
 ghost use Rattle.ll_publish.specs.Refusals.{item_refusal, reply_line};
-ghost use Rattle.ll_item.specs.Channels.{channel_of_name};
+ghost use Rattle.ll_settings.specs.Channels.{channel_of_name};
 ghost use Rattle.ll_link.specs.Answers.{IsAnswerAt, IsAnswerIn, refused_by, refused_in};
 ghost use Rattle.ll_hub.specs.Passes.{PassValue};
 ghost use Rattle.ll_link.specs.Faults.{IsOwn, IsTrue};
@@ -23,9 +23,10 @@ use crate::keeping::{Kept, Published, Told, settle, settle_in};
 use crate::service::{HandedOut, Service};
 use ll_device::{Link, write_all};
 use ll_hub::{Bell, HubFault, Ledgers, Pass, RoomFault, Sink};
-use ll_item::{Item, ItemFault, Payload, Settings};
+use ll_item::{Item, ItemFault, Payload, named};
 use ll_publish::{Feed, Line, Refusal, Success, reply_text};
 use ll_server::Gate;
+use ll_settings::Settings;
 use ll_spool::Disk;
 use ll_verdict::PublishFault;
 use std::sync::Wait;
@@ -148,7 +149,7 @@ fn place<L: Ledgers, C, G, K, D, B, R: Wait>(
     ensures unchanged { OnErr result (pass.new ≡ pass.old) }
 {
     match service.hub.find(name) {
-        Some((channel, settings)) => match settings.named(rendition) {
+        Some((channel, settings)) => match named(settings, rendition) {
             Ok(index) => match service.hub.standing(service.rt, pass, channel, index) {
                 Ok(Some(standing)) => Ok(Ok(Success::Standing(standing))),
                 Ok(None) | Err(_) => Err(LinkFault::Hub),

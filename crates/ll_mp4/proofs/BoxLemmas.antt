@@ -95,7 +95,7 @@ contents-by kind (Whole k size content rest) = refl
 pub contents_front : (kind : ℕ) (bytes : List ℕ) → contents kind (boxes bytes) ≡ from_inner kind (inner (front_of bytes))
 contents_front kind bytes = ap (contents kind) (one_more bytes) ∙ contents-by kind (front_of bytes)
 
-same_number : (n m : ℕ) → n ≡ m → (n == m) ≡ true
+pub same_number : (n m : ℕ) → n ≡ m → (n == m) ≡ true
 same_number n m e = grind (arith, nat_tests)
 
 -- the front box is one of the type, or it is another

@@ -1,5 +1,5 @@
 -- Lemmas of boxes, units, movies and fragments, and the laws of splitters.
-mod BoxLemmas
+pub mod BoxLemmas
 pub mod LeftLemmas
 mod RunLemmas
 pub mod MoreLemmas

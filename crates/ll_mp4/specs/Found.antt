@@ -1,4 +1,4 @@
--- For private contracts: what the search for boxes of a type returns.
+-- What the search for boxes of a type returns.
 use Rattle.std.specs.Prelude.{ℕ, ◌==◌, List, Option, Some, None, Result, Ok, Err}
 use Rattle.std.specs.Borrow.{Bor}
 use Rattle.ll_mp4.specs.Boxes.{Contents, Ended, Broken, Content, Front, Nothing, Part, Whole, and_content, boxes, contents, contents_in}

@@ -21,10 +21,13 @@ pub struct BoxHead {
 
 /// A box in the content of another, and the bytes after it.
 #[derive(Clone, Copy)]
-pub(crate) struct Found<'a> {
-    pub(crate) kind: u32,
-    pub(crate) content: &'a [u8],
-    pub(crate) rest: &'a [u8],
+pub struct Found<'a> {
+    /// The four bytes of its type as a big-endian number.
+    pub kind: u32,
+    /// Its content.
+    pub content: &'a [u8],
+    /// The bytes after it.
+    pub rest: &'a [u8],
 }
 
 /// Reads the header at the front of `bytes`, or returns `None` if some of its bytes are missing.
@@ -60,7 +63,7 @@ fn sized(kind: u32, len: usize, size: u64) -> Result<Option<BoxHead>, StreamFaul
 }
 
 /// Reads the box at the front of `bytes`, which must be whole boxes; returns `None` if `bytes` are empty.
-pub(crate) fn read_front(bytes: &[u8]) -> Result<Option<Found<'_>>, StreamFault>
+pub fn read_front(bytes: &[u8]) -> Result<Option<Found<'_>>, StreamFault>
     ensures told { found result ≡ inner (front_of bytes.now) }
     ensures fault { IfErr result (λ fault. fault ≡ StreamFault.BadBox) }
     ensures shorter { IfOk result (λ front. IfSome front (λ f. length f.rest.now < length bytes.now)) }

@@ -17,7 +17,7 @@ mod track;
 mod tracks;
 mod units;
 
-pub use boxes::{BoxHead, at_most_one, next_of, only, read_head};
+pub use boxes::{BoxHead, Found, at_most_one, next_of, only, read_front, read_head};
 pub use element::{Element, read_element};
 pub use fault::StreamFault;
 pub use kind::Kind;

@@ -15,8 +15,8 @@ use Rattle.ll_entry.specs.Entries.{entry_in}
 use Rattle.ll_entry.specs.declared.entry.Recorded.{Recorded}
 use Rattle.ll_entry.specs.declared.fault.CheckKind.{CheckKind}
 use Rattle.ll_entry.specs.declared.version.Version.{Version}
-use Rattle.ll_item.specs.Settings.{Configuration, settings_in}
-use Rattle.ll_item.specs.declared.settings.SettingsFault.{SettingsFault}
+use Rattle.ll_settings.specs.Settings.{Configuration, settings_in}
+use Rattle.ll_settings.specs.declared.settings.SettingsFault.{SettingsFault}
 use Rattle.ll_multivariant.specs.Keeping.{AddsLine, AddsTold, KeptValue, kept_of}
 use Rattle.ll_multivariant.specs.Pieces.{pieces_in, pieces_of}
 use Rattle.ll_verdict.specs.Events.{Event}

@@ -1,9 +1,8 @@
 -- The renditions that are named, one after another.
 use Rattle.std.proofs.Common.{◌≡◌, ℕ, ◌+◌, List, [], ◌∷◌, ◌++◌, ◌⊎◌, inl, inr, Option, Some, None, Result, Ok, Err, refl, ap, sym, ◌∙◌, append_assoc, append-nil}
-use Rattle.ll_item.specs.Settings.{Configuration}
+use Rattle.ll_settings.specs.Settings.{Configuration, rendition_named}
 use Rattle.ll_codecs.specs.Sections.{SectionValue, section_of}
 use Rattle.ll_entry.specs.declared.fault.CheckFault.{CheckFault}
-use Rattle.ll_item.specs.Items.{rendition_named}
 use Rattle.ll_mp4.specs.declared.fault.StreamFault.{StreamFault}
 use Rattle.ll_multivariant.specs.Faults.{IsBeside}
 use Rattle.ll_multivariant.specs.declared.fault.MultivariantFault.TheVariants.{Wrong, NoRendition, BadInit, NoSegment}

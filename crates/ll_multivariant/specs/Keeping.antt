@@ -7,7 +7,7 @@ use Rattle.ll_entry.specs.Entered.{event_of}
 use Rattle.ll_entry.specs.Entries.{entry_in}
 use Rattle.ll_entry.specs.declared.entry.Recorded.{Recorded}
 use Rattle.ll_entry.specs.declared.version.Version.{Version}
-use Rattle.ll_item.specs.Settings.{Configuration, settings_in}
+use Rattle.ll_settings.specs.Settings.{Configuration, settings_in}
 use Rattle.ll_multivariant.specs.Pieces.{pieces_in, pieces_of}
 use Rattle.ll_variants.specs.declared.segments.Piece.{Piece}
 

@@ -2,7 +2,7 @@
 use Rattle.std.specs.Prelude.{ℕ, ◌+◌, List, [], ◌∷◌, ◌++◌, Option, Some, None, Result, Ok, Err}
 use Rattle.ll_codecs.specs.Sections.{SectionValue, section_of}
 use Rattle.ll_entry.specs.Chain.{Chain}
-use Rattle.ll_item.specs.Items.{rendition_named}
+use Rattle.ll_settings.specs.Settings.{rendition_named, Configuration}
 use Rattle.ll_mp4.specs.declared.fault.StreamFault.{StreamFault}
 use Rattle.ll_multivariant.specs.Pieces.{pieces_of}
 use Rattle.ll_multivariant.specs.declared.fault.MultivariantFault.{MultivariantFault}
@@ -14,7 +14,6 @@ use Rattle.ll_variants.specs.Segments.{segments_of}
 use Rattle.ll_variants.specs.declared.segments.Piece.{Piece}
 use Rattle.ll_variants.specs.declared.segments.Size.{Size}
 use Rattle.ll_variants.specs.declared.stream.Stream.{Stream}
-use Rattle.ll_item.specs.Settings.{Configuration}
 
 infixl 10 ◌>>=◌
 abbrev pub ◌>>=◌ : {A B : Type 0} → Result A MultivariantFault → (A → Result B MultivariantFault) → Result B MultivariantFault

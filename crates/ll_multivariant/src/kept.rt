@@ -5,14 +5,14 @@ ghost use Rattle.ll_entry.specs.Chain.{Between, Chain, checked, checked_from};
 ghost use Rattle.ll_entry.specs.Entered.{event_of};
 ghost use Rattle.ll_entry.specs.Entries.{entry_in};
 ghost use Rattle.ll_entry.specs.declared.entry.Recorded.{Recorded};
-ghost use Rattle.ll_item.specs.Settings.{Configuration, settings_in};
+ghost use Rattle.ll_settings.specs.Settings.{Configuration, settings_in};
 ghost use Rattle.ll_multivariant.specs.Keeping.{AddsLine, AddsTold, kept_of, piece_list};
 ghost use Rattle.ll_multivariant.specs.Pieces.{pieces_in};
 
 use crate::piece::piece_of;
 use ll_check::{Checker, Told};
 use ll_entry::{CheckFault, CheckKind, Recorded, Version};
-use ll_item::Settings;
+use ll_settings::Settings;
 use ll_variants::Piece;
 use std::alloc::{AllocError, Global};
 use std::marker::Model;

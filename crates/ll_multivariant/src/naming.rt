@@ -7,8 +7,8 @@ ghost use Rattle.ll_multivariant.specs.Naming as spec;
 use crate::fault::{MultivariantFault, variant_fault};
 use ll_attr::Text;
 use ll_codecs::{Section, read_section};
-use ll_item::Settings;
 use ll_mp4::StreamFault;
+use ll_settings::Settings;
 use ll_variants::{Piece, Stream, finished_segments, rates_of};
 use std::alloc::Global;
 

@@ -12,5 +12,5 @@ pub use Rattle.ll_line.specs.Uris
 pub use Rattle.ll_window.specs.Compact
 pub use Rattle.ll_window.specs.Rows
 pub use Rattle.ll_range.specs.Announced
-pub use Rattle.ll_item.specs.Settings
+pub use Rattle.ll_settings.specs.Settings
 pub use Rattle.ll_format.specs.Times

@@ -1,6 +1,6 @@
 -- The text of a page: a full playlist or a delta update at one moment of a channel.
 use Rattle.std.specs.Prelude.{ℕ, zero, suc, List, Option, Some, None}
-use Rattle.ll_item.specs.Settings.{Configuration}
+use Rattle.ll_settings.specs.Settings.{Configuration}
 use Rattle.ll_item.specs.declared.skip_kind.SkipKind.{SkipKind}
 use Rattle.ll_page.specs.Delta.{delta_text}
 use Rattle.ll_page.specs.Full.{full_text}

@@ -12,9 +12,10 @@ ghost use Rattle.ll_line.specs.Spelling.{spelling, head_lines, header_lines, las
 use crate::pieces::{Pieces, Rendered};
 use crate::view::View;
 use ll_attr::{Micros, Text};
-use ll_item::{Settings, SkipKind};
+use ll_item::SkipKind;
 use ll_line::{Control, Line, Report, Uri, push_line, push_skip};
 use ll_range::Ranges;
+use ll_settings::Settings;
 use ll_window::{PartPosition, Window};
 use std::alloc::{AllocError, Global};
 

@@ -7,8 +7,9 @@ ghost use Rattle.ll_page.specs.View.{GoOn};
 ghost use Rattle.ll_rendition.specs.Refusal.{refusal_at};
 
 use crate::view::View;
-use ll_item::{Item, Settings};
+use ll_item::Item;
 use ll_rendition::Rendition;
+use ll_settings::Settings;
 use std::alloc::{AllocError, Global};
 use std::marker::Model;
 use std::sync::Arc;

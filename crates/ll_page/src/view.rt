@@ -3,9 +3,10 @@ ghost use Rattle.std.specs.Prelude.{◌≡◌, ◌<◌, ◌≤◌, MatchOption, 
 ghost use Rattle.ll_page.specs.Page.{update_in};
 ghost use Rattle.ll_page.specs.View.{asked};
 
-use ll_item::{Settings, SkipKind};
+use ll_item::SkipKind;
 use ll_range::Ranges;
 use ll_rendition::Rendition;
+use ll_settings::Settings;
 use ll_window::Window;
 use std::marker::Model;
 

@@ -6,7 +6,7 @@ use crate::changes::is_recent;
 use crate::listed::ListedRanges;
 use indexmap::IndexMap;
 use ll_attr::Text;
-use ll_item::Settings;
+use ll_settings::Settings;
 use std::alloc::{AllocError, Global};
 use std::marker::Model;
 use thiserror::Error;

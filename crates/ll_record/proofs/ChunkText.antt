@@ -6,7 +6,7 @@ use Rattle.std.specs.Str.{is_utf8}
 use Rattle.ll_entry.specs.Blank.{blank_event, blank_events}
 use Rattle.ll_entry.specs.Chain.{Chain, entries, is_channel}
 use Rattle.ll_entry.specs.Replies.{most}
-use Rattle.ll_item.specs.Settings.{Configuration, limit_broken}
+use Rattle.ll_settings.specs.Settings.{Configuration, limit_broken}
 use Rattle.ll_entry.proofs.ChunkProof.{chunk, first-chunk}
 use Rattle.ll_entry.specs.Leads.{IsChunkOf, IsLed, chain_of, chunk_text}
 use Rattle.ll_entry.specs.Frame.{header_text, last_line}

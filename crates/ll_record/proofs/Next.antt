@@ -13,7 +13,7 @@ use Rattle.ll_entry.specs.Lines.{IsSpelled, entry_line}
 use Rattle.ll_entry.specs.declared.entry.Recorded.{Recorded}
 use Rattle.ll_entry.specs.declared.entry.Recorded.TheVariants as recorded
 use Rattle.ll_entry.specs.declared.version.Version.TheVariants.{Two}
-use Rattle.ll_item.specs.Settings.{Configuration, limit_broken}
+use Rattle.ll_settings.specs.Settings.{Configuration, limit_broken}
 use Rattle.ll_entry.proofs.LeadLemmas.{entry-next}
 use Rattle.ll_entry.proofs.ToldLemmas.{right-whole, steps-many}
 use Rattle.ll_entry.specs.Leads.{IsLed, with_end}

@@ -8,7 +8,7 @@ use Rattle.ll_entry.specs.Replies.{told_in}
 use Rattle.ll_directive.specs.Targets.{WantValue}
 use Rattle.ll_entry.specs.declared.entry.Recorded.TheVariants as recorded
 use Rattle.ll_entry.specs.declared.version.Version.TheVariants.{Two}
-use Rattle.ll_item.specs.Settings.{Configuration}
+use Rattle.ll_settings.specs.Settings.{Configuration}
 use Rattle.ll_item.specs.declared.item.Item.{Item}
 use Rattle.ll_verdict.proofs.WaitingLemmas.{open-ready}
 use Rattle.ll_room.specs.Answers as room

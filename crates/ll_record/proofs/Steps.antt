@@ -7,7 +7,7 @@ use Rattle.ll_entry.specs.Lines.{IsSpelled, asked_line, entry_line}
 use Rattle.ll_entry.specs.declared.entry.Recorded.{Recorded}
 use Rattle.ll_entry.specs.declared.entry.Recorded.TheVariants as recorded
 use Rattle.ll_entry.specs.declared.version.Version.TheVariants.{Two}
-use Rattle.ll_item.specs.Settings.{Configuration, limit_broken}
+use Rattle.ll_settings.specs.Settings.{Configuration, limit_broken}
 use Rattle.ll_item.specs.declared.item.Item.{Item}
 use Rattle.ll_entry.proofs.WritableProof.{item-writable}
 use Rattle.ll_room.proofs.AcceptLemmas.{refusal-told}

@@ -2,7 +2,7 @@
 use Rattle.std.specs.Prelude.{◌≡◌, ◌≤◌, ℕ, List, Bool, true, false, Option, length, take, drop, filter, nat_le}
 use Rattle.std.specs.List.{flat_map, list_all}
 use Rattle.ll_directive.specs.Targets.{WantValue}
-use Rattle.ll_item.specs.Settings.{Configuration}
+use Rattle.ll_settings.specs.Settings.{Configuration}
 use Rattle.ll_item.specs.declared.item.Item.{Item}
 use Rattle.ll_entry.specs.Blank.{blank_events}
 use Rattle.ll_entry.specs.Leads.{IsLed}

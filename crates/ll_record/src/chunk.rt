@@ -6,7 +6,7 @@ ghost use Rattle.ll_entry.specs.Frame.{last_line};
 ghost use Rattle.ll_entry.specs.SettingsLine.{settings_line};
 
 use ll_entry::{LAST_LINE, Version, header_text, settings_text};
-use ll_item::Settings;
+use ll_settings::Settings;
 use std::alloc::{AllocError, Global};
 use std::marker::Model;
 

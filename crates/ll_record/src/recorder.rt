@@ -8,8 +8,8 @@ ghost use Rattle.ll_verdict.specs.State.{state_of};
 
 use crate::chunk::Chunk;
 use crate::lines::Lines;
-use ll_item::Settings;
 use ll_room::Room;
+use ll_settings::Settings;
 use std::alloc::{AllocError, Global};
 use std::marker::Model;
 

@@ -3,7 +3,7 @@ ghost use Rattle.std.specs.Prelude.{◌≡◌};
 
 use crate::calls::{Tried, UNTRIED, judge};
 use ll_hub::{Bell, Blanks, Claim, Clock, Hub, HubAsked, Ledgers, Pass, Waited};
-use ll_item::Settings;
+use ll_settings::Settings;
 use ll_trial::{CHANNEL, CallResult, PART, Tools, answer_in, item, want};
 use std::marker::Brand;
 use std::sync::Wait;

@@ -1,6 +1,6 @@
 -- What is kept of all items of a rendition.
 use Rattle.std.specs.Prelude.{List}
-use Rattle.ll_item.specs.Settings.{Configuration}
+use Rattle.ll_settings.specs.Settings.{Configuration}
 use Rattle.ll_item.specs.declared.item.Item.{Item}
 use Rattle.ll_window.specs.Compact.{compact}
 use Rattle.ll_range.specs.Announced.{announced}

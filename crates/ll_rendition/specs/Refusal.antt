@@ -1,6 +1,6 @@
 -- The rules that refuse the next item of a rendition, in their order (rule 23).
 use Rattle.std.specs.Prelude.{List, Option, Some, None, option_map}
-use Rattle.ll_item.specs.Settings.{Configuration}
+use Rattle.ll_settings.specs.Settings.{Configuration}
 use Rattle.ll_item.specs.declared.item.Item.{Item}
 use Rattle.ll_window.specs.Refusal as window
 use Rattle.ll_window.specs.declared.fault.WindowFault.{WindowFault}

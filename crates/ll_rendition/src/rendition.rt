@@ -1,7 +1,7 @@
 //! What is kept of one rendition. Its next item is added in two steps: a test by the rules, and a step that fails only if memory runs out.
 ghost use Rattle.std.specs.Prelude.{◌≡◌, ◌≢◌, ◌++◌, ◌∷◌, [], IfErr, IfOk, List, true, false, MatchResult, OnOk, OnErr, None, Some};
 ghost use Rattle.ll_item.specs.Items.{is_about_ranges};
-ghost use Rattle.ll_item.specs.Settings.{Configuration};
+ghost use Rattle.ll_settings.specs.Settings.{Configuration};
 ghost use Rattle.ll_item.specs.declared.item.Item.{Item};
 ghost use Rattle.ll_range.specs.Announced as range;
 ghost use Rattle.ll_rendition.specs.Kept.{kept};

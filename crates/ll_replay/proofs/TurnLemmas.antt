@@ -11,7 +11,7 @@ use Rattle.ll_connection.proofs.RoomsLaws as laws
 use Rattle.ll_directive.specs.Targets.{WantValue}
 use Rattle.ll_script_rooms.specs.declared.owner.Owner.{Owner}
 use Rattle.ll_script_rooms.specs.declared.owner.Owner.TheVariants.{Connection}
-use Rattle.ll_item.specs.Settings.{Configuration}
+use Rattle.ll_settings.specs.Settings.{Configuration}
 use Rattle.ll_session.specs.Talk.{SessionValue}
 use Rattle.ll_verdict.specs.declared.reply.Reply.{Reply}
 use Rattle.ll_script_rooms.proofs.SettingsLaws.{ask-keeps, close-keeps, next_reply-keeps}

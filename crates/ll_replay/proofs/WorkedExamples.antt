@@ -7,7 +7,7 @@ use Rattle.hex.specs.Hex.{encode_with}
 use Rattle.ll_attr.specs.Durations.{seconds}
 use Rattle.ll_format.specs.Calendar.{nth_date}
 use Rattle.ll_format.specs.Times.{time_of, digits_2, digits_3, digits_4}
-use Rattle.ll_item.specs.Settings.{configuration_of}
+use Rattle.ll_settings.specs.Settings.{configuration_of}
 use Rattle.ll_line.specs.Text.{line_text}
 use Rattle.ll_line.specs.Uris.{segment_uri, part_uri, map_uri, report_uri}
 use Rattle.ll_publish.specs.Refusals.{at_line, ok_line, refusal_line}

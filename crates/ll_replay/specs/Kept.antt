@@ -4,7 +4,7 @@ use Rattle.std.specs.declared.alloc.Global.{Global}
 use Rattle.std.specs.declared.vec.Vec.{Vec}
 use Rattle.std.specs.Io.KnownBytes.{Appends}
 use Rattle.ll_connection.specs.Turn.{Connections}
-use Rattle.ll_item.specs.Settings.{Configuration}
+use Rattle.ll_settings.specs.Settings.{Configuration}
 use Rattle.ll_script_rooms.specs.Kept as rooms
 use Rattle.ll_script_rooms.specs.World as rooms_world
 use Rattle.ll_script.specs.Lines.{starved}

@@ -1,7 +1,7 @@
 //! Recorders, and the requests that are held at them.
-use ll_item::Settings;
 use ll_record::Recorder;
 use ll_room::{Parked, Stored};
+use ll_settings::Settings;
 use std::alloc::Global;
 use std::process::Abort;
 

@@ -1,7 +1,8 @@
 //! A test of requests that wait in a channel, step by step.
 use ll_directive::read_target;
-use ll_item::{Item, Payload, Settings};
+use ll_item::{Item, Payload};
 use ll_script_rooms::{ActAnswer, Owner, Rooms};
+use ll_settings::Settings;
 use ll_verdict::Reply;
 use std::alloc::Global;
 use std::process::Abort;

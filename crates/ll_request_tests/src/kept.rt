@@ -4,10 +4,11 @@ ghost use Rattle.ll_verdict.specs.Waiting.{AreBelow};
 
 use ll_book::{Book, ParkFault, Release, Released, release_law};
 use ll_directive::Awaited;
-use ll_item::{Item, Payload, Settings, What};
+use ll_item::{Item, Payload, What};
 use ll_page::{Rendition, Shown};
 use ll_page_cache::{Pages, Rendered};
 use ll_range::Ranges;
+use ll_settings::Settings;
 use ll_verdict::{Entry, Settled, Wanted};
 use ll_window::Window;
 use std::alloc::{AllocError, Global};

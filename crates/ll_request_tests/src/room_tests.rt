@@ -1,8 +1,9 @@
 //! Tests of rooms, and of the values that stand for the requests that wait in them.
 use ll_directive::read_target;
-use ll_item::{Item, Payload, Settings};
+use ll_item::{Item, Payload};
 use ll_room::{Asked, Closed, Collected, Parked, Room, Stamped};
 use ll_script_rooms::Shelf;
+use ll_settings::Settings;
 use ll_verdict::Reply;
 use std::alloc::Global;
 use std::process::Abort;

@@ -6,8 +6,8 @@ use Rattle.ll_directive.specs.Files.{is_playlist}
 use Rattle.ll_directive.specs.Targets.{WantValue, awaits}
 use Rattle.ll_directive.specs.declared.want.Awaited.{Awaited}
 use Rattle.ll_directive.specs.declared.want.Awaited.TheVariants.{Nothing, Segment, Part}
-use Rattle.ll_item.specs.Items.{rendition_named, rendition_of}
-use Rattle.ll_item.specs.Settings.{Configuration}
+use Rattle.ll_item.specs.Items.{rendition_of}
+use Rattle.ll_settings.specs.Settings.{rendition_named, Configuration}
 use Rattle.ll_item.specs.declared.item.Item.{Item}
 use Rattle.ll_item.specs.declared.item.Item.TheVariants as item
 use Rattle.ll_page.proofs.RenditionLemmas.{own-same, own-other}

@@ -1,7 +1,7 @@
 -- After an event no open request is left that would settle: those that could have settled with it, and a new one isn't due yet.
 use Rattle.std.proofs.Common.{◌≡◌, ℕ, ◌+◌, ◌*◌, ◌≤◌, List, [], ◌∷◌, Bool, true, false, ◌&&◌, ◌||◌, cond, nat_le, Option, Some, None, is_none, length, refl, ap, ap₂, sym, subst, filter, map, arith}
 use Rattle.std.proofs.lemmas.Bool.Decides.{nat_tests}
-use Rattle.ll_item.specs.Settings.{Configuration}
+use Rattle.ll_settings.specs.Settings.{Configuration}
 use Rattle.ll_item.specs.declared.item.Item.{Item}
 use Rattle.ll_verdict.specs.Events.{Event, Publish, Ask, Collect, Close, Clock, items, time, taken, later}
 use Rattle.ll_verdict.specs.State.{State, state_of, settle, stays, new_slots, slot_by, answer_of, next, waiting_in}

@@ -1,7 +1,7 @@
 -- Held requests that are collected, closed or time out: the room after it, and the tickets that are left.
 use Rattle.std.proofs.Common.{◌≡◌, ℕ, ◌+◌, ◌≤◌, ◌==◌, List, [], ◌∷◌, ◌++◌, Bool, true, false, not, ◌&&◌, ◌||◌, cond, nat_le, Option, Some, None, is_none, refl, ap, ap₂, ◌∙◌, sym, subst, true≢false, filter, length, map, max, append-nil, arith}
 use Rattle.std.proofs.lemmas.Bool.Decides.{nat_tests}
-use Rattle.ll_item.specs.Settings.{Configuration}
+use Rattle.ll_settings.specs.Settings.{Configuration}
 use Rattle.ll_item.specs.declared.item.Item.{Item}
 use Rattle.ll_verdict.specs.Events.{Event, Collect, Close, Clock, items, time}
 use Rattle.ll_verdict.specs.State.{State, state_of, settle, stays, next}

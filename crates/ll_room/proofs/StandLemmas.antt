@@ -1,6 +1,6 @@
 -- One more event: the room stands for the events before it and this one.
 use Rattle.std.proofs.Common.{◌≡◌, List, [], ◌∷◌, ◌++◌, Bool, true, cond, refl, ap, ◌∙◌, sym, filter}
-use Rattle.ll_item.specs.Settings.{Configuration}
+use Rattle.ll_settings.specs.Settings.{Configuration}
 use Rattle.ll_verdict.specs.Events.{Event}
 use Rattle.ll_verdict.specs.State.{state_of, stays, next}
 use Rattle.ll_verdict.specs.declared.entry.Slot.{Slot}

@@ -3,7 +3,7 @@ use Rattle.std.proofs.Common.{◌≡◌, ℕ, ◌<◌, List, [], ◌∷◌, ◌+
 use Rattle.std.specs.Prelude.{slice_get}
 use Rattle.std.proofs.lemmas.Bool.Decides.{nat_tests}
 use Rattle.ll_item.specs.Items.{rendition_of}
-use Rattle.ll_item.specs.Settings.{Configuration}
+use Rattle.ll_settings.specs.Settings.{Configuration}
 use Rattle.ll_item.specs.declared.item.Item.{Item}
 use Rattle.ll_page.proofs.RenditionLemmas.{length-renditions, own-same, rendition-got}
 use Rattle.ll_page.specs.View.{GoOn, renditions}

@@ -1,7 +1,7 @@
 -- For private contracts: the releases of an item, and the room after it, by what is kept of its rendition before it.
 use Rattle.std.specs.Prelude.{◌≡◌, ◌+◌, ◌++◌, List, [], ◌∷◌, true, false, Option, Some, None, map, slice_get}
 use Rattle.ll_item.specs.Items.{rendition_of}
-use Rattle.ll_item.specs.Settings.{Configuration}
+use Rattle.ll_settings.specs.Settings.{Configuration}
 use Rattle.ll_item.specs.declared.item.Item.{Item}
 use Rattle.ll_page.specs.View.{renditions}
 use Rattle.ll_store.specs.Media.{StoreValue}

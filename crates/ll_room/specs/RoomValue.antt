@@ -1,7 +1,7 @@
 -- The value of a room: what is kept of a channel in place of its events.
 use Rattle.std.specs.Prelude.{◌≡◌, ℕ, List, [], ◌∷◌, Bool, false, filter, length, map, not, ◌==◌}
 use Rattle.std.specs.List.{list_any}
-use Rattle.ll_item.specs.Settings.{Configuration}
+use Rattle.ll_settings.specs.Settings.{Configuration}
 use Rattle.ll_page.specs.Page.{Moment}
 use Rattle.ll_page.specs.View.{renditions}
 use Rattle.ll_rendition.specs.declared.rendition.Rendition.{Rendition}

@@ -11,10 +11,10 @@ ghost use Rattle.ll_verdict.specs.Events.{Event, items};
 ghost use Rattle.ll_verdict.specs.Standing.{standing};
 
 use ll_book::Book;
-use ll_item::Settings;
 use ll_page::{Rendition, Shown};
 use ll_page_cache::Written;
 use ll_range::Ranges;
+use ll_settings::Settings;
 use ll_store::{Store, new_stores};
 use ll_verdict::{Entry, Standing};
 use ll_window::Window;

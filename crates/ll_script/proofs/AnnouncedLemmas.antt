@@ -8,7 +8,7 @@ use Rattle.ll_attr.specs.Numbers.{number_in}
 use Rattle.ll_attr.specs.Words.{words}
 use Rattle.ll_item.specs.Items.{alone_in, bare_of, flags_in, init_at, item_in, item_of, named, part_at, part_by, part_in}
 use Rattle.ll_item.specs.Media.{media_limit, zeros}
-use Rattle.ll_item.specs.Settings.{Configuration}
+use Rattle.ll_settings.specs.Settings.{Configuration}
 use Rattle.ll_item.specs.declared.item.Item.{Item}
 use Rattle.ll_item.specs.declared.item.ItemFault.{ItemFault}
 use Rattle.ll_item.specs.declared.item.ItemFault.TheVariants as fault

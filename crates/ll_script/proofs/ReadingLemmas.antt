@@ -6,12 +6,12 @@ use Rattle.std.proofs.lemmas.Str.{IsUtf8-from_is_utf8, is_utf8-from_IsUtf8}
 use Rattle.std.specs.Str.{IsUtf8, is_utf8}
 use Rattle.ll_attr.specs.Numbers.{number_in}
 use Rattle.ll_attr.specs.Words.{after, pieces_at, words}
-use Rattle.ll_item.specs.Channels.{channel_of_name}
+use Rattle.ll_settings.specs.Channels.{channel_of_name}
 use Rattle.ll_directive.specs.Targets.{WantValue}
 use Rattle.ll_directive.specs.declared.fault.TargetFault.{TargetFault}
 use Rattle.ll_directive.specs.declared.fault.TargetFault.TheVariants as target
 use Rattle.ll_item.specs.Items.{named}
-use Rattle.ll_item.specs.Settings.{Configuration, settings_in}
+use Rattle.ll_settings.specs.Settings.{Configuration, settings_in}
 use Rattle.ll_item.specs.declared.item.ItemFault.{ItemFault}
 use Rattle.ll_item.specs.declared.item.ItemFault.TheVariants as fault
 use Rattle.ll_publish.specs.Refusals.{item_refusal}

@@ -3,9 +3,9 @@ use Rattle.std.proofs.Common.{◌≡◌, ◌&&◌, List, [], ◌∷◌, ℕ, Boo
 use Rattle.std.specs.Prelude.{bytes_eq, codes, if◌then◌else◌}
 use Rattle.std.proofs.lemmas.Option.{none-some, same_Some}
 use Rattle.ll_attr.specs.Words.{words}
-use Rattle.ll_item.specs.Names.{is_name}
-use Rattle.ll_item.specs.Settings.{Configuration, ◌>>=◌, configuration_of, limit_broken, names_in, number_of, settings_by, settings_in, unless_broken, value_of}
-use Rattle.ll_item.specs.declared.settings.SettingsFault.{SettingsFault}
+use Rattle.ll_settings.specs.Names.{is_name}
+use Rattle.ll_settings.specs.Settings.{Configuration, ◌>>=◌, configuration_of, limit_broken, names_in, number_of, settings_by, settings_in, unless_broken, value_of}
+use Rattle.ll_settings.specs.declared.settings.SettingsFault.{SettingsFault}
 
 -- more than two words, of which this is the second
 abbrev HasSecond : List (List ℕ) → List ℕ → Type 0

@@ -5,7 +5,7 @@ use Rattle.std.specs.Fmt.{digits}
 use Rattle.std.specs.Str.{is_utf8, chars}
 use Rattle.form_urlencoded.specs.Form.{raw_pairs, split}
 use Rattle.percent_encoding.specs.Percent.{percent_decode}
-use Rattle.ll_item.specs.Settings.{configuration_of}
+use Rattle.ll_settings.specs.Settings.{configuration_of}
 use Rattle.ll_publish.specs.Refusals.{at_line, ok_line, refusal_line}
 use Rattle.hex.specs.Hex.{encode_with}
 use Rattle.ll_wire.specs.Response.{first_lines, is_media_response, last_lines, reason}

@@ -3,16 +3,16 @@ use Rattle.std.specs.Prelude.{◌≡◌, ℕ, ◌+◌, ◌^◌, List, [], ◌∷
 use Rattle.std.specs.Str.{is_utf8}
 use Rattle.ll_attr.specs.Numbers.{number_in}
 use Rattle.ll_attr.specs.Words.{words, after}
-use Rattle.ll_item.specs.Channels.{channel_of_name}
+use Rattle.ll_settings.specs.Channels.{channel_of_name}
 use Rattle.ll_directive.specs.Targets.{WantValue, want_in}
 use Rattle.ll_directive.specs.declared.fault.TargetFault.{TargetFault}
 use Rattle.ll_directive.specs.declared.fault.TargetFault.TheVariants as target
 use Rattle.ll_item.specs.Items.{item_in, named}
 use Rattle.ll_item.specs.Media.{media_limit}
-use Rattle.ll_item.specs.Settings.{Configuration, settings_in}
+use Rattle.ll_settings.specs.Settings.{Configuration, settings_in}
 use Rattle.ll_item.specs.declared.item.Item.{Item}
 use Rattle.ll_item.specs.declared.item.ItemFault.{ItemFault}
-use Rattle.ll_item.specs.declared.settings.SettingsFault.{SettingsFault}
+use Rattle.ll_settings.specs.declared.settings.SettingsFault.{SettingsFault}
 use Rattle.ll_item.specs.Announced.{told_bytes}
 use Rattle.ll_publish.specs.Line.{Line}
 use Rattle.ll_publish.specs.Line as said

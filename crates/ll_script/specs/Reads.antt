@@ -1,6 +1,6 @@
 -- For private contracts: the result of reading a line.
 use Rattle.std.specs.Prelude.{◌≡◌, List, Option, None, Result, Ok, Err, IsSome}
-use Rattle.ll_item.specs.Settings.{Configuration}
+use Rattle.ll_settings.specs.Settings.{Configuration}
 use Rattle.ll_script.specs.Lines.{AreRead}
 use Rattle.ll_script.specs.declared.act.Act.{Act}
 use Rattle.ll_script.specs.declared.act.Acts.{Acts}

@@ -4,7 +4,7 @@ use Rattle.ll_directive.specs.Targets.{WantValue, media_want}
 use Rattle.ll_directive.specs.declared.fault.TargetFault.TheVariants as target
 use Rattle.ll_directive.specs.declared.want.Awaited.{Awaited}
 use Rattle.ll_directive.specs.declared.want.Awaited.TheVariants as awaited
-use Rattle.ll_item.specs.Settings.{Configuration}
+use Rattle.ll_settings.specs.Settings.{Configuration}
 use Rattle.ll_item.specs.declared.item.Item.TheVariants.{Init}
 use Rattle.ll_publish.specs.Refusals.{at_line, no_line, ok_line}
 use Rattle.ll_publish.specs.declared.refusal.Refusal.TheVariants as refused

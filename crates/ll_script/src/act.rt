@@ -1,8 +1,9 @@
 //! What the lines of a script make happen.
 use crate::piece::Received;
 use ll_directive::{TargetFault, Want};
-use ll_item::{Item, Settings};
+use ll_item::Item;
 use ll_publish::Refusal;
+use ll_settings::Settings;
 
 /// One thing that a line of a script makes happen. A channel is named by its place in the order of declaration, from 0.
 #[derive(Drop)]

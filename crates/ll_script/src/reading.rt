@@ -1,11 +1,11 @@
 //! Reads a line of a script into the acts that it makes happen.
 ghost use Rattle.std.specs.Prelude.{◌≡◌, ◌∷◌, [], IfOk, IsErrOf, IsSome, MatchOption, Ok, None, Some, codes, if◌then◌else◌, is_some, length, ℕ, List, Option};
 ghost use Rattle.ll_attr.specs.Words.{after, words};
-ghost use Rattle.ll_item.specs.Channels.{channel_of_name};
+ghost use Rattle.ll_settings.specs.Channels.{channel_of_name};
 ghost use Rattle.ll_directive.specs.Targets.{WantValue, want_in};
 ghost use Rattle.ll_item.specs.Items.{item_in};
 ghost use Rattle.ll_item.specs.Media.{zeros};
-ghost use Rattle.ll_item.specs.Settings.{Configuration, settings_in};
+ghost use Rattle.ll_settings.specs.Settings.{Configuration, settings_in};
 ghost use Rattle.ll_script.specs.Hex.{bytes_in_hex};
 ghost use Rattle.ll_script.specs.Lines.{alone};
 ghost use Rattle.ll_script.specs.Lines as spec;
@@ -16,8 +16,9 @@ use crate::hexadecimal::{is_hex, read_hex};
 use crate::piece::Received;
 use ll_attr::{after, cut, parse_number};
 use ll_directive::{TargetFault, named_channel, read_target};
-use ll_item::{Channels, Item, Payload, Settings, SettingsFault, told_bytes};
+use ll_item::{Item, Payload, named, told_bytes};
 use ll_publish::{Line, Refusal};
+use ll_settings::{Channels, Settings, SettingsFault};
 use ll_verdict::{LAST_TIME, PublishFault};
 use std::alloc::Global;
 use std::str;
@@ -141,7 +142,7 @@ fn read_at(declared: &Channels, name: &str, rendition: &str) -> Act
     let Some((place, settings)) = declared.find(name) else {
         return Act::Refuse(Refusal::UnknownChannel);
     };
-    match settings.named(rendition) {
+    match named(settings, rendition) {
         Ok(rendition) => Act::At { place, rendition },
         Err(fault) => Act::Refuse(Refusal::from(fault)),
     }

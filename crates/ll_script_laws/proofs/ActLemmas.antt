@@ -9,7 +9,7 @@ use Rattle.std.specs.List.{after_first, before_first, list_any, position_or_len}
 use Rattle.std.specs.Str.{IsUtf8, is_utf8}
 use Rattle.ll_attr.specs.Words.{words}
 use Rattle.ll_item.specs.Items.{item_in, named}
-use Rattle.ll_item.specs.Settings.{Configuration, IsWithin}
+use Rattle.ll_settings.specs.Settings.{Configuration, IsWithin}
 use Rattle.ll_item.specs.declared.item.Item.{Item}
 use Rattle.ll_item.specs.declared.item.ItemFault.{ItemFault}
 use Rattle.ll_item.proofs.LastWord.{IsLine, told-line}
@@ -18,7 +18,7 @@ use Rattle.ll_item.specs.Media.{media_limit}
 use Rattle.ll_publish.specs.Line as said
 use Rattle.ll_publish.specs.Lines.{asked_in, asking, line_by}
 use Rattle.ll_publish.specs.declared.refusal.Refusal.TheVariants as refused
-use Rattle.ll_item.specs.Channels.{channel_of_name}
+use Rattle.ll_settings.specs.Channels.{channel_of_name}
 use Rattle.ll_script.specs.Lines.{acts, at_by, at_in, bytes_spelled, item_act, item_before, item_with, offer, offer_by, offer_to, offer_within, starved, without_bytes}
 use Rattle.ll_script.specs.declared.act.Act.{Act}
 use Rattle.ll_script.specs.declared.act.Act.TheVariants.{Declare, Offer, At, Refuse, Ask, Answer, Close, Clock, RefuseClock, Bytes, Drop}

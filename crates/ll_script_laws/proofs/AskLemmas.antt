@@ -2,8 +2,8 @@
 use Rattle.std.proofs.Common.{◌≡◌, ℕ, ◌+◌, ◌≤◌, ◌==◌, ◌&&◌, List, [], ◌∷◌, ◌++◌, Bool, true, false, cond, Option, Some, None, refl, ap, ap₂, sym, ◌∙◌, subst, find, fold, length, option_map, slice_get, slice_set, append-nil, append_assoc, filter, arith}
 use Rattle.std.specs.Option.{option_or}
 use Rattle.std.proofs.lemmas.Option.{slice_get-map}
-use Rattle.ll_item.specs.Channels.{channel_of_name}
-use Rattle.ll_item.proofs.ChannelLemmas.{named-within}
+use Rattle.ll_settings.specs.Channels.{channel_of_name}
+use Rattle.ll_settings.proofs.ChannelLemmas.{named-within}
 use Rattle.ll_connection.specs.Met.{waiting_of}
 use Rattle.ll_connection.specs.Visit as visit
 use Rattle.ll_connection.specs.Visit.{ask_in, asked, first_spoken}
@@ -12,7 +12,7 @@ use Rattle.ll_script_rooms.specs.Waits.{is_of, is_same, is_under, under, wait_of
 use Rattle.ll_script_rooms.specs.declared.owner.Owner.{Owner}
 use Rattle.ll_script_rooms.specs.declared.owner.Owner.TheVariants.{Get, Connection}
 use Rattle.ll_script_rooms.specs.declared.wait.Wait.{Wait}
-use Rattle.ll_item.specs.Settings.{Configuration}
+use Rattle.ll_settings.specs.Settings.{Configuration}
 use Rattle.ll_verdict.specs.Full.{is_full}
 use Rattle.ll_verdict.specs.Events.{Event, Publish, Ask, Collect, Close, Clock, asks, counted}
 use Rattle.ll_verdict.specs.Verdict.{Request, at_once, held, reply, reply_of, wanted_of}

@@ -4,7 +4,7 @@ use Rattle.std.specs.List.{list_any}
 use Rattle.std.proofs.lemmas.Bool.Decides.{nat_tests}
 use Rattle.std.proofs.lemmas.List.Elements.{filter-append}
 use Rattle.ll_verdict.specs.Waiting.{first_ready, is_ready, is_ready_at, settled_in, ticket_in}
-use Rattle.ll_item.specs.Settings.{Configuration}
+use Rattle.ll_settings.specs.Settings.{Configuration}
 use Rattle.ll_item.specs.declared.item.Item.{Item}
 use Rattle.ll_verdict.specs.Events.{Event, Publish, Ask, Collect, Close, Clock, items, later, taken, time}
 use Rattle.ll_verdict.specs.State.{State, answer_of, new_slots, next, settle, slot_by, slot_of, state_of, stays, waiting_in}

@@ -3,7 +3,7 @@ use Rattle.std.proofs.Common.{◌≡◌, ℕ, zero, suc, List, [], ◌∷◌, Bo
 use Rattle.ll_directive.specs.Targets.{WantValue}
 use Rattle.ll_script_rooms.specs.declared.owner.Owner.{Owner}
 use Rattle.ll_script_rooms.specs.declared.owner.Owner.TheVariants.{Get, Connection}
-use Rattle.ll_item.specs.Settings.{Configuration, IsWithin}
+use Rattle.ll_settings.specs.Settings.{Configuration, IsWithin}
 use Rattle.ll_script.specs.Lines.{acts, starved}
 use Rattle.ll_script.specs.declared.act.Act.{Act}
 use Rattle.ll_script.specs.declared.act.Act.TheVariants.{Declare, Offer, At, Refuse, Ask, Answer, Close, Clock, RefuseClock, Bytes, Drop}

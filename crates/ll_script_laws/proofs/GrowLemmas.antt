@@ -1,8 +1,8 @@
 -- What happened stays, whatever happens later: an answer that was right is right, and a request that waits was made.
 use Rattle.std.proofs.Common.{◌≡◌, ℕ, zero, suc, ◌+◌, ◌==◌, List, [], ◌∷◌, ◌++◌, Bool, true, false, Option, Some, None, refl, ap, sym, ◌∙◌, subst, bytes_eq, if◌then◌else◌, option_map, option_and_then, slice_get, slice_set, append-nil, append_assoc}
 use Rattle.std.specs.Option.{option_or}
-use Rattle.ll_item.specs.Settings.{Configuration}
-use Rattle.ll_item.specs.Channels.{channel_of_name}
+use Rattle.ll_settings.specs.Settings.{Configuration}
+use Rattle.ll_settings.specs.Channels.{channel_of_name}
 use Rattle.ll_directive.specs.Targets.{WantValue}
 use Rattle.ll_verdict.specs.Events.{Event, Ask, Step, asks}
 use Rattle.ll_verdict.specs.Verdict.{Request, at_once, decided, held, reply, reply_at_step, reply_of, wanted_of}

@@ -14,7 +14,7 @@ use Rattle.ll_attr.proofs.Joined.{joined_words}
 use Rattle.ll_attr.proofs.Spelled.{read_again, written_again}
 use Rattle.ll_attr.proofs.Tails.{left_read}
 use Rattle.ll_item.specs.Items.{alone_in, bare_of, break_at, break_in, end_at, finish_at, flags_in, init_at, item_in, item_of, named, part_at, part_by, part_in, range_at, range_in, range_of, range_with, time_in, timed_break, unrange_at, unrange_in}
-use Rattle.ll_item.specs.Settings.{Configuration}
+use Rattle.ll_settings.specs.Settings.{Configuration}
 use Rattle.ll_item.specs.declared.item.Item.{Item}
 use Rattle.ll_item.specs.declared.item.Item.TheVariants.{Part, Init, Finish, Break, End, Range, Unrange}
 use Rattle.ll_item.specs.declared.item.ItemFault.{ItemFault}

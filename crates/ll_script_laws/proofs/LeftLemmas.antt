@@ -7,7 +7,7 @@ use Rattle.ll_directive.specs.Targets.{WantValue}
 use Rattle.ll_script_rooms.specs.declared.owner.Owner.{Owner}
 use Rattle.ll_script_rooms.specs.declared.owner.Owner.TheVariants.{Get, Connection}
 use Rattle.ll_script_rooms.specs.declared.wait.Wait.{Wait}
-use Rattle.ll_item.specs.Settings.{Configuration}
+use Rattle.ll_settings.specs.Settings.{Configuration}
 use Rattle.ll_item.specs.declared.item.Item.{Item}
 use Rattle.ll_verdict.specs.Full.{refusal_after}
 use Rattle.ll_verdict.specs.declared.fault.ClockFault.{ClockFault}

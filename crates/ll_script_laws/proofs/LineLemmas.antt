@@ -5,10 +5,10 @@ use Rattle.ll_attr.specs.Numbers.{number_in}
 use Rattle.ll_attr.specs.Words.{after, words}
 use Rattle.ll_directive.specs.Targets.{WantValue, want_in}
 use Rattle.ll_directive.specs.declared.fault.TargetFault.{TargetFault}
-use Rattle.ll_item.specs.Channels.{channel_of_name}
-use Rattle.ll_item.specs.Settings.{Configuration, IsWithin, configuration_of, limit_broken, settings_by, settings_in, unless_broken}
-use Rattle.ll_item.specs.declared.settings.SettingsFault.{SettingsFault}
-use Rattle.ll_item.proofs.WithinLimits.{within}
+use Rattle.ll_settings.specs.Channels.{channel_of_name}
+use Rattle.ll_settings.specs.Settings.{Configuration, IsWithin, configuration_of, limit_broken, settings_by, settings_in, unless_broken}
+use Rattle.ll_settings.specs.declared.settings.SettingsFault.{SettingsFault}
+use Rattle.ll_settings.proofs.WithinLimits.{within}
 use Rattle.ll_script.specs.Hex.{bytes_in_hex}
 use Rattle.ll_script.specs.Lines.{Kind, acts, acts_by, alone, ask, ask_in, begun, begun_by, bytes_by, bytes_of, clocks_from, close_of, declaration, drop_of, get_by, get_of, is_passed_over, kinds, offer, reading, rises}
 use Rattle.ll_script.specs.declared.act.Act.{Act}

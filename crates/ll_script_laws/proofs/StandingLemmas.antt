@@ -4,15 +4,15 @@ use Rattle.std.proofs.lemmas.List.Quantifiers.{position-Some}
 use Rattle.std.proofs.lemmas.List.Sums.{fold-append}
 use Rattle.std.proofs.lemmas.Bool.Decides.{nat_tests}
 use Rattle.std.proofs.lemmas.Option.{slice_get-map}
-use Rattle.ll_item.specs.Channels.{channel_of_name}
-use Rattle.ll_item.specs.Items.{item_in, named, named_at, rendition_named}
+use Rattle.ll_settings.specs.Channels.{channel_of_name}
+use Rattle.ll_item.specs.Items.{item_in, named, named_at}
+use Rattle.ll_settings.specs.Settings.{rendition_named, Configuration}
 use Rattle.ll_item.specs.Media.{media_limit}
-use Rattle.ll_item.specs.Names.{is_name}
-use Rattle.ll_item.specs.Settings.{Configuration}
+use Rattle.ll_settings.specs.Names.{is_name}
 use Rattle.ll_item.specs.declared.item.Item.{Item}
 use Rattle.ll_item.specs.declared.item.ItemFault.{ItemFault}
 use Rattle.ll_item.specs.declared.item.ItemFault.TheVariants as fault
-use Rattle.ll_item.proofs.ChannelLemmas.{named-within}
+use Rattle.ll_settings.proofs.ChannelLemmas.{named-within}
 use Rattle.ll_publish.specs.Line.{Line}
 use Rattle.ll_publish.specs.Line as says_line
 use Rattle.ll_publish.specs.Lines.{line_of}

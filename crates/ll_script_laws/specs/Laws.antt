@@ -1,6 +1,6 @@
 -- Laws of the channels of a script, of the texts that their requests get, and of replies that are due.
 use Rattle.std.specs.Prelude.{◌≡◌, ℕ, ◌+◌, ◌≤◌, ◌<◌, List, [], ◌∷◌, ◌++◌, Option, Some, None, Ok, true, is_some, fold, length, map, slice_get}
-use Rattle.ll_item.specs.Settings.{Configuration, IsWithin, skip_limit}
+use Rattle.ll_settings.specs.Settings.{Configuration, IsWithin, skip_limit}
 use Rattle.ll_verdict.specs.Waiting.{IsRising, first_ready, is_ready, ticket_in}
 use Rattle.ll_directive.specs.Targets.{WantValue}
 use Rattle.ll_item.specs.Told.{end_time}

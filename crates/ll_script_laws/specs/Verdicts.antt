@@ -1,8 +1,8 @@
 -- Which answers are right for the requests of a connection.
 use Rattle.std.specs.Prelude.{◌≡◌, ℕ, ◌+◌, List, [], ◌∷◌, ◌++◌, true, Option, Some, None, flat_map, length, map, option_map, slice_get}
 use Rattle.std.specs.Option.{option_or}
-use Rattle.ll_item.specs.Settings.{Configuration}
-use Rattle.ll_item.specs.Channels.{channel_of_name}
+use Rattle.ll_settings.specs.Settings.{Configuration}
+use Rattle.ll_settings.specs.Channels.{channel_of_name}
 use Rattle.ll_directive.specs.Targets.{WantValue}
 use Rattle.ll_directive.specs.declared.fault.TargetFault.TheVariants.{NotFound}
 use Rattle.ll_verdict.specs.Full.{is_full}

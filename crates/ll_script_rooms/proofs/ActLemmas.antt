@@ -6,7 +6,7 @@ use Rattle.std.proofs.lemmas.List.Sums.{sum_by-append, sum_by-set}
 use Rattle.std.proofs.lemmas.Option.{get_or_from_slice_get, slice_get_within}
 use Rattle.ll_verdict.specs.Waiting.{first_ready, reply_at, ticket_in}
 use Rattle.ll_directive.specs.Targets.{WantValue}
-use Rattle.ll_item.specs.Settings.{Configuration}
+use Rattle.ll_settings.specs.Settings.{Configuration}
 use Rattle.ll_item.specs.declared.item.Item.{Item}
 use Rattle.ll_verdict.specs.Events.{Event, Publish, Ask, Collect, Close, Clock}
 use Rattle.ll_verdict.specs.State.{slot_of, state_of}

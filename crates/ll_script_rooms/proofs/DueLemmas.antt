@@ -2,7 +2,7 @@
 use Rattle.std.proofs.Common.{◌≡◌, ℕ, ◌==◌, ◌&&◌, ◌||◌, List, [], ◌∷◌, Bool, true, false, not, cond, Option, Some, None, is_some, option_and_then, option_map, refl, ap, ap₂, ◌∙◌, sym, find, filter, map}
 use Rattle.std.specs.List.{list_any}
 use Rattle.ll_verdict.specs.Waiting.{first_ready, has_ticket, is_ready, reply_at, settled_in, ticket_in}
-use Rattle.ll_item.specs.Settings.{Configuration}
+use Rattle.ll_settings.specs.Settings.{Configuration}
 use Rattle.ll_verdict.specs.Events.{Event}
 use Rattle.ll_verdict.specs.State.{gone, slot_of, state_of}
 use Rattle.ll_verdict.specs.Verdict.{Request, held, reply}

@@ -2,7 +2,7 @@
 use Rattle.std.proofs.Common.{◌≡◌, ℕ, ◌<◌, ◌≤◌, true, false, Option, Some, None, if◌then◌else◌, length, nat_lt, slice_get, ap, sym, ◌∙◌, arith, refl}
 use Rattle.std.proofs.lemmas.Bool.Decides.{nat_tests}
 use Rattle.std.specs.Prelude.{List, MatchOption}
-use Rattle.ll_item.specs.Settings.{Configuration}
+use Rattle.ll_settings.specs.Settings.{Configuration}
 use Rattle.ll_room.specs.RoomValue.{RoomValue, Stands}
 use Rattle.ll_script_rooms.specs.Kept.{Kept, kept_world}
 use Rattle.ll_script_rooms.specs.World.{World, standing, standing_at}

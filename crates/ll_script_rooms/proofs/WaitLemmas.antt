@@ -6,7 +6,7 @@ use Rattle.std.proofs.lemmas.List.{map-append}
 use Rattle.ll_verdict.specs.Waiting.{AreBelow, IsRising, reply_at, ticket_in}
 use Rattle.ll_script_rooms.proofs.Rising.{alone, rising-filter, rising-park}
 use Rattle.ll_directive.specs.Targets.{WantValue}
-use Rattle.ll_item.specs.Settings.{Configuration}
+use Rattle.ll_settings.specs.Settings.{Configuration}
 use Rattle.ll_item.specs.declared.item.Item.{Item}
 use Rattle.ll_verdict.specs.Events.{Event, Publish, Ask, Collect, Close, Clock, asks, counted, items, later, taken}
 use Rattle.ll_verdict.specs.State.{State, gone, new_slots, next, settle, slot_by, state_of, stays}

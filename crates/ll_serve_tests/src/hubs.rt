@@ -3,7 +3,8 @@ ghost use Rattle.std.specs.Prelude.{◌≡◌};
 
 use crate::rows::push_three;
 use ll_hub::{Bell, Blanks, Clock, Hub, Ledgers, Pass};
-use ll_item::{Item, Payload, Settings};
+use ll_item::{Item, Payload};
+use ll_settings::Settings;
 use std::alloc::Global;
 use std::process::Abort;
 use std::sync::Wait;

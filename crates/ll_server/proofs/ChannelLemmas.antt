@@ -2,8 +2,8 @@
 use Rattle.std.proofs.Common.{◌≡◌, ℕ, ◌+◌, ◌<◌, ◌≤◌, ◌&&◌, List, [], ◌∷◌, ◌++◌, Bool, true, false, not, nat_lt, cond, Option, Some, None, Result, Ok, Err, IsOk, refl, ap, sym, subst, ◌∙◌, true≢false, length, length-append, option_and_then, arith}
 use Rattle.std.proofs.lemmas.Bool.Decides.{nat_tests}
 use Rattle.std.specs.Str.{is_utf8}
-use Rattle.ll_item.specs.Settings.{Configuration, settings_in}
-use Rattle.ll_item.specs.declared.settings.SettingsFault.{SettingsFault}
+use Rattle.ll_settings.specs.Settings.{Configuration, settings_in}
+use Rattle.ll_settings.specs.declared.settings.SettingsFault.{SettingsFault}
 use Rattle.ll_server.proofs.ConfigLemmas.{Least, channels-least}
 use Rattle.ll_server.specs.Config.{Left, another_channel, channel_line, channel_then, channels_from, has_name, next_text, text_of}
 use Rattle.ll_server.specs.Faults.{IsRightTo}

@@ -7,7 +7,7 @@ use Rattle.std.proofs.NetLemmas.Sockets.{read_socket_v4_complete, read_socket_v4
 use Rattle.std.specs.Result.{result_ok}
 use Rattle.std.specs.Str.{is_utf8}
 use Rattle.std.specs.declared.net.socket_addr.SocketAddrV4.{SocketAddrV4}
-use Rattle.ll_item.specs.Settings.{Configuration}
+use Rattle.ll_settings.specs.Settings.{Configuration}
 use Rattle.ll_server.specs.Config.{ConfigValue, Left, address_in, address_line, address_of, all_left, and_then, begins, channel_line, channel_then, channels_from, config_from, config_in, next, next_path, next_text, path_line, text_of, told, workers_line}
 use Rattle.ll_server.specs.Faults.{IsFault, IsRightTo, LeadsPast}
 use Rattle.ll_server.specs.declared.fault.ConfigFault.{ConfigFault}

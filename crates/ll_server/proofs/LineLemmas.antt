@@ -10,6 +10,7 @@ use Rattle.std.specs.List.{onto_first, position_or_len}
 use Rattle.std.specs.Str.{IsUtf8, is_utf8}
 use Rattle.std.specs.Str.Lines.{strip_carriage_return}
 use Rattle.memchr.specs.Find.{IsFirstByte, is_byte}
+use Rattle.ll_attr.proofs.Joined.{some_piece}
 use Rattle.ll_attr.specs.Words.{pieces_at}
 use Rattle.ll_server.specs.Config.{Left, file_lines, lines_of, next_text, text_of}
 
@@ -20,27 +21,10 @@ not_true : (b : Bool) → ¬ (b ≡ true) → b ≡ false
 not_true true h = absurd (h refl)
 not_true false h = refl
 
--- a text has one piece at least
-abbrev HasPiece : List (List ℕ) → Type 0
-HasPiece pieces = (first : List ℕ) × (more : List (List ℕ)) × (pieces ≡ first ∷ more)
-
-onto-piece : (b : ℕ) (pieces : List (List ℕ)) → HasPiece (onto_first b pieces)
-onto-piece b [] = (b ∷ [], [], refl)
-onto-piece b (piece ∷ more) = (b ∷ piece, more, refl)
-
-piece-by : (b : ℕ) (bs : List ℕ) (end : Bool) → is_lf b ≡ end → HasPiece (pieces_at 10 (b ∷ bs))
-piece-by b bs true e = ([], pieces_at 10 bs, slice_split-cons_yes is_lf b bs e)
-piece-by b bs false e =
-    let on = onto-piece b (pieces_at 10 bs) in (on.0, on.1, slice_split-cons_no is_lf b bs e ∙ on.2)
-
-has-piece : (text : List ℕ) → HasPiece (pieces_at 10 text)
-has-piece [] = ([], [], refl)
-has-piece (b ∷ bs) = piece-by b bs (is_lf b) refl
-
 -- a line that has its end, before the others
 lines-cons : (line rest : List ℕ) → lines_of (line ∷ pieces_at 10 rest) ≡ strip_carriage_return line ∷ file_lines rest
 lines-cons line rest =
-    let (first, more, are) = has-piece rest in
+    let (first, more, are) = some_piece 10 rest in
     ap (λ ps. lines_of (line ∷ ps)) are ∙ ap (λ ps. strip_carriage_return line ∷ lines_of ps) (sym are)
 
 some-bytes : (n : ℕ) → 0 < n → (n == 0) ≡ false

@@ -8,7 +8,7 @@ use Rattle.std.specs.Str.Lines.{strip_carriage_return}
 use Rattle.std.specs.declared.net.socket_addr.SocketAddrV4.{SocketAddrV4}
 use Rattle.ll_attr.specs.Numbers.{number_in}
 use Rattle.ll_attr.specs.Words.{after, pieces_at}
-use Rattle.ll_item.specs.Settings.{Configuration, settings_in}
+use Rattle.ll_settings.specs.Settings.{Configuration, settings_in}
 
 -- the settings of a server
 pub record ConfigValue : Type 0 where

@@ -1,6 +1,6 @@
 //! Reads a server's settings file, which has one setting per line.
 ghost use Rattle.std.specs.Prelude.{◌≡◌, ◌≤◌, ◌<◌, ◌+◌, IfErr, IfOk, IsErrOf, IsOk, OnErr, OnOk, Ok, Err, [], Some, length, option_map, vec_len, ℕ};
-ghost use Rattle.ll_item.specs.Settings.{settings_in};
+ghost use Rattle.ll_settings.specs.Settings.{settings_in};
 ghost use Rattle.ll_server.specs.Config as spec;
 ghost use Rattle.ll_server.specs.Config.{address_line, channel_line, channels_from, config_in, next, next_path, path_line, workers_line};
 ghost use Rattle.ll_server.specs.Faults.{IsFault, IsRightTo, LeadsPast};
@@ -8,7 +8,7 @@ ghost use Rattle.ll_server.specs.Faults.{IsFault, IsRightTo, LeadsPast};
 use crate::fault::ConfigFault;
 use crate::lines::Lines;
 use ll_attr::{Text, after, parse_number};
-use ll_item::{Settings, SettingsFault};
+use ll_settings::{Settings, SettingsFault};
 use std::alloc::{AllocError, Global};
 use std::net::SocketAddrV4;
 

@@ -2,8 +2,8 @@
 use crate::counts::Counts;
 use crate::gate::Gate;
 use ll_format::UtcTime;
-use ll_item::Settings;
 use ll_publish::Refusal;
+use ll_settings::Settings;
 use ll_wire::Answer;
 use std::alloc::{AllocError, Global};
 

@@ -2,8 +2,8 @@
 use crate::journal::Journal;
 use crate::queue::{Queue, Unwritten};
 use ll_attr::Text;
-use ll_item::Settings;
 use ll_record::{Chunk, Sink};
+use ll_settings::Settings;
 use std::alloc::{AllocError, Global};
 use std::fs::File;
 use std::rt::Files;

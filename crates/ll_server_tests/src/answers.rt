@@ -1,7 +1,8 @@
 //! Answers to players, by name.
-use ll_item::{Item, Media, Payload, Settings, SkipKind, What};
+use ll_item::{Item, Media, Payload, SkipKind, What};
 use ll_page::{Page, Rendition, Shown};
 use ll_range::Ranges;
+use ll_settings::Settings;
 use ll_store::Blocks;
 use ll_verdict::{AskFault, MediaReply, Reply};
 use ll_window::Window;

@@ -1,9 +1,9 @@
 //! A test of the numbers that an operator reads.
 use crate::answers::{SHORT, answer};
 use ll_format::UtcTime;
-use ll_item::Settings;
 use ll_publish::Refusal;
 use ll_server::{Gate, Numbers};
+use ll_settings::Settings;
 use ll_verdict::PublishFault;
 use std::alloc::{AllocError, Global};
 use std::process::Abort;

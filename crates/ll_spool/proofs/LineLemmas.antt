@@ -2,14 +2,15 @@
 use Rattle.std.proofs.Common.{◌≡◌, ℕ, ◌+◌, ◌-◌, ◌<◌, ◌==◌, List, [], ◌∷◌, Bool, true, false, cond, Some, None, Result, Ok, Err, IfOk, IsErrOf, refl, ap, sym, ◌∙◌, length, get_or, take, drop, option_and_then, arith}
 use Rattle.std.proofs.lemmas.List.{take_rest}
 use Rattle.std.proofs.lemmas.List.Elements.{All-from_get_or}
-use Rattle.std.proofs.lemmas.List.Splits.{slice_split_first, slice_split_none, slice_split-cons_no, slice_split-cons_yes}
+use Rattle.std.proofs.lemmas.List.Splits.{slice_split_first, slice_split_none}
 use Rattle.std.proofs.lemmas.List.Sums.{position_or_len_is}
-use Rattle.std.specs.List.{onto_first, position_or_len}
+use Rattle.std.specs.List.{position_or_len}
 use Rattle.std.proofs.lemmas.Str.{IsUtf8-from_is_utf8, is_utf8-from_IsUtf8}
 use Rattle.std.specs.Str.{IsUtf8, is_utf8}
 use Rattle.memchr.specs.Find.{IsFirstByte, is_byte}
+use Rattle.ll_attr.proofs.Joined.{some_piece}
 use Rattle.ll_attr.specs.Words.{after, pieces_at}
-use Rattle.ll_item.specs.Settings.{Configuration}
+use Rattle.ll_settings.specs.Settings.{Configuration}
 use Rattle.ll_item.specs.declared.item.Item.{Item}
 use Rattle.ll_spool.specs.declared.fault.RestoreFault.{RestoreFault}
 use Rattle.ll_spool.specs.declared.fault.RestoreFault.TheVariants as fault
@@ -22,27 +23,10 @@ not_true : (b : Bool) → ¬ (b ≡ true) → b ≡ false
 not_true true h = absurd (h refl)
 not_true false h = refl
 
--- a text has one piece at least
-abbrev HasPiece : List (List ℕ) → Type 0
-HasPiece pieces = (first : List ℕ) × (more : List (List ℕ)) × (pieces ≡ first ∷ more)
-
-onto-piece : (b : ℕ) (pieces : List (List ℕ)) → HasPiece (onto_first b pieces)
-onto-piece b [] = (b ∷ [], [], refl)
-onto-piece b (piece ∷ more) = (b ∷ piece, more, refl)
-
-piece-by : (b : ℕ) (bs : List ℕ) (end : Bool) → is_lf b ≡ end → HasPiece (pieces_at 10 (b ∷ bs))
-piece-by b bs true e = ([], pieces_at 10 bs, slice_split-cons_yes is_lf b bs e)
-piece-by b bs false e =
-    let on = onto-piece b (pieces_at 10 bs) in (on.0, on.1, slice_split-cons_no is_lf b bs e ∙ on.2)
-
-has-piece : (text : List ℕ) → HasPiece (pieces_at 10 text)
-has-piece [] = ([], [], refl)
-has-piece (b ∷ bs) = piece-by b bs (is_lf b) refl
-
 -- a line that has its end, before the others
 pub lines-cons : (line rest : List ℕ) → whole (line ∷ pieces_at 10 rest) ≡ line ∷ lines_in rest
 lines-cons line rest =
-    let (first, more, are) = has-piece rest in ap (λ ps. whole (line ∷ ps)) are ∙ ap (λ ps. line ∷ whole ps) (sym are)
+    let (first, more, are) = some_piece 10 rest in ap (λ ps. whole (line ∷ ps)) are ∙ ap (λ ps. line ∷ whole ps) (sym are)
 
 pub cut-some : (bytes : List ℕ) (end : ℕ) → IsFirstByte (is_byte 10) bytes (Some end)
     → lines_in bytes ≡ take end bytes ∷ lines_in (take (length bytes - (end + 1)) (drop (end + 1) bytes))

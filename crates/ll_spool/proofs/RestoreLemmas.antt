@@ -3,7 +3,7 @@ use Rattle.std.proofs.Common.{◌≡◌, ℕ, ◌+◌, List, [], ◌∷◌, ◌+
 use Rattle.std.proofs.lemmas.List.{map-append}
 use Rattle.ll_entry.specs.SettingsLine.{settings_line}
 use Rattle.ll_item.specs.Items.{blank}
-use Rattle.ll_item.specs.Settings.{Configuration}
+use Rattle.ll_settings.specs.Settings.{Configuration}
 use Rattle.ll_item.specs.declared.item.Item.{Item}
 use Rattle.ll_spool.specs.Restored.{IsPublished, IsPublishing, IsRestored, IsSpelledBy, Left, accepted_after, in_front}
 use Rattle.ll_spool.specs.Spooled.{item_then, items_from, items_of, lines_in}

@@ -1,7 +1,7 @@
 -- What a start publishes of a spool.
 use Rattle.std.specs.Prelude.{◌≡◌, ◌+◌, ℕ, List, ◌++◌, Option, Some, None, Result, Ok, Err, length, map}
 use Rattle.ll_item.specs.Items.{blank}
-use Rattle.ll_item.specs.Settings.{Configuration}
+use Rattle.ll_settings.specs.Settings.{Configuration}
 use Rattle.ll_item.specs.declared.item.Item.{Item}
 use Rattle.ll_spool.specs.Spooled.{items_from, spool_in, spooled_in}
 

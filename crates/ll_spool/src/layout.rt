@@ -2,7 +2,8 @@
 use crate::fault::AddFault;
 use crate::side::{Place, Side};
 use crate::track::Track;
-use ll_item::{Item, Media, PartItem, Settings};
+use ll_item::{Item, Media, PartItem};
+use ll_settings::Settings;
 use std::alloc::{AllocError, Global};
 
 /// Where the bytes of a channel's items are kept.

@@ -5,7 +5,8 @@ ghost use Rattle.ll_spool.specs.Spooled.{numbered, published_in, spooled_in, spo
 use crate::fault::RestoreFault;
 use ll_attr::after;
 use ll_entry::{EntryFault, Recorded, Version};
-use ll_item::{Item, Settings};
+use ll_item::Item;
+use ll_settings::Settings;
 use std::alloc::{AllocError, Global};
 use std::str;
 

@@ -15,7 +15,8 @@ use crate::side::Place;
 use crate::spool::Spool;
 use crate::survey::{Stored, Survey};
 use ll_entry::settings_text;
-use ll_item::{Item, Media, Payload, Settings};
+use ll_item::{Item, Media, Payload};
+use ll_settings::Settings;
 use std::alloc::{AllocError, Global};
 
 /// A channel that accepts items.

@@ -10,7 +10,8 @@ use crate::line::push_line;
 use crate::side::Side;
 use crate::track::{Section, Track};
 use ll_entry::settings_text;
-use ll_item::{Item, Media, Settings};
+use ll_item::{Item, Media};
+use ll_settings::Settings;
 use std::alloc::Global;
 
 /// A channel's spool while it is written. After the first item that isn't kept it keeps none, so that what it has is a prefix of what the

@@ -3,7 +3,8 @@ use crate::fault::AddFault;
 use crate::layout::Layout;
 use crate::side::{Place, Side};
 use crate::track::Section;
-use ll_item::{Item, Media, Settings};
+use ll_item::{Item, Media};
+use ll_settings::Settings;
 use std::alloc::{AllocError, Global};
 use std::collections::VecDeque;
 

@@ -1,7 +1,8 @@
 //! What a spool keeps in mind of one rendition.
 use crate::fault::AddFault;
 use crate::side::{Place, Side};
-use ll_item::{Item, Media, Settings};
+use ll_item::{Item, Media};
+use ll_settings::Settings;
 use ll_window::{PushError, Window};
 use std::alloc::{AllocError, Global};
 

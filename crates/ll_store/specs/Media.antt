@@ -1,7 +1,7 @@
 -- The bytes that are kept of a rendition for requests: of segments, parts and Media Initialization Sections.
 use Rattle.std.specs.Prelude.{ℕ, ◌-◌, List, [], ◌∷◌, ◌++◌, Option, Some, None, drop, if◌then◌else◌, length, nat_le, option_and_then, option_map, slice_get}
 use Rattle.std.specs.List.{concat}
-use Rattle.ll_item.specs.Settings.{Configuration}
+use Rattle.ll_settings.specs.Settings.{Configuration}
 use Rattle.ll_item.specs.declared.item.Item.{Item}
 use Rattle.ll_window.specs.Compact.{Compact, compact}
 use Rattle.ll_store.specs.Parts.{open_bytes, segment_bytes}

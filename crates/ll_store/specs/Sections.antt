@@ -1,6 +1,6 @@
 -- Media Initialization Sections: the bytes that were announced last for each map number (EXT-X-MAP, section 4.4.4.5).
 use Rattle.std.specs.Prelude.{ℕ, List, [], ◌∷◌, ◌++◌, ◌==◌, not, Option, filter, find, nat_le, option_map}
-use Rattle.ll_item.specs.Settings.{Configuration}
+use Rattle.ll_settings.specs.Settings.{Configuration}
 use Rattle.ll_item.specs.declared.item.Item.{Item}
 use Rattle.ll_item.specs.declared.item.Item.TheVariants as item
 use Rattle.ll_store.specs.declared.segment.Section.{Section}

@@ -2,7 +2,7 @@
 ghost use Rattle.std.specs.Prelude.{◌≡◌, ◌+◌, ◌<◌, ◌≤◌, ◌^◌, ◌++◌, ◌∷◌, [], OnOk, ◌==◌, filter, length, nat_le, not, true, vec_capacity, vec_len};
 ghost use Rattle.std.specs.List.{concat};
 ghost use Rattle.std.specs.VecDeque.{deque_capacity, deque_len};
-ghost use Rattle.ll_item.specs.Settings.{Configuration};
+ghost use Rattle.ll_settings.specs.Settings.{Configuration};
 ghost use Rattle.ll_store.specs.Media.{last_of, store};
 ghost use Rattle.ll_store.specs.Sections.{with_section};
 ghost use Rattle.ll_store.specs.Step.{closed, grown, trimmed};

@@ -9,8 +9,9 @@ use crate::arrival::Arrival;
 use crate::blocks::Found;
 use crate::brought::Brought;
 use crate::store::Store;
-use ll_item::{Item, Settings, What};
+use ll_item::{Item, What};
 use ll_rendition::Rendition;
+use ll_settings::Settings;
 use std::alloc::{AllocError, Global};
 
 /// Returns a store without items for each rendition of `settings`.

@@ -1,8 +1,9 @@
 //! A table of the names of faults, which `thiserror` writes and no contract pins.
 use ll_attr::AttrFault;
 use ll_directive::TargetFault;
-use ll_item::{ItemFault, SettingsFault};
+use ll_item::ItemFault;
 use ll_range::{RangeError, RangeFault};
+use ll_settings::SettingsFault;
 use ll_window::{PushError, WindowFault};
 use std::alloc::AllocError;
 use std::fmt::Display;

@@ -1,7 +1,8 @@
 //! Tables of settings and items, and of the lines that spell them.
 use crate::rows::{Bench, LINE, column};
 use ll_attr::{AttrList, Text};
-use ll_item::{Item, ItemFault, Media, Payload, Settings, announced};
+use ll_item::{Item, ItemFault, Media, Payload, announced};
+use ll_settings::Settings;
 use std::alloc::{AllocError, Global};
 
 pub(crate) fn add_answer(

@@ -1,8 +1,9 @@
 //! Tables of playlists, and of the views and pages that they are written from.
 use crate::rows::{column, number};
-use ll_item::{Item, Payload, Settings, SettingsFault};
+use ll_item::{Item, Payload};
 use ll_page::{Page, Rendition, Shown, SkipKind, View, delta, full};
 use ll_range::Ranges;
+use ll_settings::{Settings, SettingsFault};
 use ll_window::Window;
 use std::alloc::{AllocError, Global};
 

@@ -1,7 +1,8 @@
 //! A playlist that tests share.
-use ll_item::{Item, Payload, Settings};
+use ll_item::{Item, Payload};
 use ll_page::{Page, Rendition, Shown};
 use ll_range::Ranges;
+use ll_settings::Settings;
 use ll_window::Window;
 use std::alloc::{AllocError, Global};
 

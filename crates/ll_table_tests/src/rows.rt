@@ -6,8 +6,8 @@ use crate::{
     piece_tests, range_tests, read_fault_tests, read_table_tests, read_tests, session_tests,
     time_tests, want_tests, window_tests, wire_tests,
 };
-use ll_item::Settings;
 use ll_range::Ranges;
+use ll_settings::Settings;
 use ll_window::Window;
 use std::alloc::{AllocError, Global};
 use std::process::Abort;

@@ -1,9 +1,10 @@
 //! A recorded channel, and the results of its calls.
 use crate::tools::{CHANNEL, Tools};
 use ll_directive::{Want, read_target};
-use ll_item::{Item, Payload, Settings};
+use ll_item::{Item, Payload};
 use ll_record::{Chunk, Recorder};
 use ll_room::{AskFault, Asked, Parked, Stamped, Stored};
+use ll_settings::Settings;
 use ll_verdict::{ClockFault, PublishFault, Reply};
 use std::alloc::Global;
 use std::sync::Wait;

@@ -1,6 +1,6 @@
 //! Orders to refuse memory, and a way to drop the values of requests, which have no `Drop`.
-use ll_item::Settings;
 use ll_room::{Parked, Room, Stored};
+use ll_settings::Settings;
 use std::alloc::Global;
 use std::sync::Wait;
 

@@ -1,7 +1,7 @@
 -- What is decided is decided by the first event that can, and stays so.
 use Rattle.std.proofs.Common.{◌≡◌, ◌+◌, suc, List, [], ◌∷◌, ◌++◌, Bool, true, false, not, cond, filter, length, Option, Some, None, is_none, refl, ap, ◌∙◌, sym, append_assoc, append-nil, true≢false, arith}
 use Rattle.std.specs.Option.{option_or}
-use Rattle.ll_item.specs.Settings.{Configuration}
+use Rattle.ll_settings.specs.Settings.{Configuration}
 use Rattle.ll_verdict.specs.Events.{Event, Step, until}
 use Rattle.ll_verdict.specs.Laws.{IsFirst, FirstStateLaw, OneVerdictLaw}
 use Rattle.ll_verdict.specs.State.{state_of, is_waiting}

@@ -1,7 +1,7 @@
 -- The items that a channel accepts.
 use Rattle.std.specs.Prelude.{List, Option, Some, length, nat_lt, if◌then◌else◌}
 use Rattle.ll_item.specs.Items.{rendition_of}
-use Rattle.ll_item.specs.Settings.{Configuration}
+use Rattle.ll_settings.specs.Settings.{Configuration}
 use Rattle.ll_item.specs.declared.item.Item.{Item}
 use Rattle.ll_window.specs.Segments.{own}
 use Rattle.ll_rendition.specs.Refusal.{rendition_refusal}

@@ -1,6 +1,6 @@
 -- The events of one channel, in the order in which they happened, and what follows from them.
 use Rattle.std.specs.Prelude.{ℕ, ◌+◌, List, [], ◌∷◌, ◌++◌, fold, is_none, max, if◌then◌else◌}
-use Rattle.ll_item.specs.Settings.{Configuration}
+use Rattle.ll_settings.specs.Settings.{Configuration}
 use Rattle.ll_item.specs.declared.item.Item.{Item}
 use Rattle.ll_directive.specs.Targets.{WantValue}
 use Rattle.ll_verdict.specs.Accepted.{refusal}

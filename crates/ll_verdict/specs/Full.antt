@@ -1,6 +1,6 @@
 -- How many events a channel takes, and the first rule that refuses an item.
 use Rattle.std.specs.Prelude.{ℕ, ◌^◌, List, Bool, Option, Some, None, length, nat_le, if◌then◌else◌}
-use Rattle.ll_item.specs.Settings.{Configuration}
+use Rattle.ll_settings.specs.Settings.{Configuration}
 use Rattle.ll_item.specs.declared.item.Item.{Item}
 use Rattle.ll_verdict.specs.Accepted.{refusal}
 use Rattle.ll_rendition.specs.Refusal.{first_refusal}

@@ -1,6 +1,6 @@
 -- Where a rendition stands, as a publisher has to know it before it goes on.
 use Rattle.std.specs.Prelude.{ℕ, ◌+◌, ◌/◌, List, length}
-use Rattle.ll_item.specs.Settings.{Configuration}
+use Rattle.ll_settings.specs.Settings.{Configuration}
 use Rattle.ll_item.specs.Told.{end_time}
 use Rattle.ll_item.specs.declared.item.Item.{Item}
 use Rattle.ll_rendition.specs.declared.rendition.Rendition.{Rendition}

@@ -1,7 +1,6 @@
 -- What each request of a channel gets, over the list of all events (blocking playlist reload, section 6.2.5.2; Preload Hints, section 4.4.5.3).
 use Rattle.std.specs.Prelude.{ℕ, ◌+◌, ◌*◌, ◌==◌, ◌&&◌, ◌||◌, List, [], ◌∷◌, ◌++◌, Bool, true, false, not, Option, Some, None, is_none, nat_le, nat_lt, length, fold, filter, find, if◌then◌else◌, option_and_then, option_map}
-use Rattle.ll_item.specs.Items.{rendition_named}
-use Rattle.ll_item.specs.Settings.{Configuration}
+use Rattle.ll_settings.specs.Settings.{rendition_named, Configuration}
 use Rattle.ll_item.specs.declared.item.Item.{Item}
 use Rattle.ll_page.specs.View.{seen}
 use Rattle.ll_store.specs.Media.{media}

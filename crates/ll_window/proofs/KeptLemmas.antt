@@ -2,7 +2,7 @@
 use Rattle.std.proofs.Common.{◌≡◌, Option, Some, ℕ, ◌+◌, ◌*◌, ◌^◌, ◌≤◌, List, [], ◌∷◌, ◌++◌, Bool, true, false, cond, length, ◌==◌, ◌<◌, None, nat_le, nat_lt, refl, ap, ap₂, sym, subst, ◌∙◌, arith}
 use Rattle.std.proofs.lemmas.Bool.Decides.{nat_tests}
 use Rattle.ll_attr.specs.YearEnd.{last_micro}
-use Rattle.ll_item.specs.Settings.{Configuration, number_end}
+use Rattle.ll_settings.specs.Settings.{Configuration, number_end}
 use Rattle.ll_window.specs.declared.finished.Finished.{Finished}
 use Rattle.ll_item.specs.declared.part.Part.{Part}
 use Rattle.ll_window.specs.declared.part_position.PartPosition.{PartPosition}

@@ -1,7 +1,7 @@
 -- What is kept of all items of a rendition for its segments and parts.
 use Rattle.std.specs.Prelude.{◌≡◌, ℕ, ◌+◌, ◌*◌, List, [], ◌∷◌, ◌++◌, Bool, true, Option, Some, None, length}
 use Rattle.ll_item.specs.Items.{is_about_ranges}
-use Rattle.ll_item.specs.Settings.{Configuration, skip_limit}
+use Rattle.ll_settings.specs.Settings.{Configuration, skip_limit}
 use Rattle.ll_item.specs.declared.item.Item.{Item}
 use Rattle.ll_item.specs.declared.part.Part.{Part}
 use Rattle.ll_window.specs.declared.part_position.PartPosition.{PartPosition}

@@ -1,7 +1,7 @@
 -- For private contracts: the invariant of a window, and the steps of its progress.
 use Rattle.std.specs.Prelude.{None, ◌≡◌, ℕ, ◌+◌, ◌*◌, ◌<◌, ◌≤◌, List, [], ◌∷◌, false, Some}
 use Rattle.ll_attr.specs.YearEnd.{last_micro}
-use Rattle.ll_item.specs.Settings.{Configuration, number_end}
+use Rattle.ll_settings.specs.Settings.{Configuration, number_end}
 use Rattle.ll_item.specs.declared.part.Part.{Part}
 use Rattle.ll_window.specs.declared.progress.Progress.{Progress}
 use Rattle.ll_window.specs.declared.finished.Finished.{Finished}

@@ -9,4 +9,4 @@ pub mod Step
 pub mod Wants
 pub mod Window
 pub use Rattle.ll_item.specs.Items
-pub use Rattle.ll_item.specs.Settings
+pub use Rattle.ll_settings.specs.Settings

@@ -1,7 +1,7 @@
 -- The rules that refuse the next item of a rendition.
 use Rattle.std.specs.Prelude.{ℕ, ◌+◌, ◌*◌, ◌/◌, ◌||◌, ◌==◌, List, [], ◌∷◌, Bool, true, false, length, nat_lt, Option, Some, None, if◌then◌else◌}
 use Rattle.ll_attr.specs.YearEnd.{last_micro}
-use Rattle.ll_item.specs.Settings.{Configuration, number_end}
+use Rattle.ll_settings.specs.Settings.{Configuration, number_end}
 use Rattle.ll_item.specs.declared.item.Item.{Item}
 use Rattle.ll_item.specs.declared.item.Item.TheVariants as item
 use Rattle.ll_item.specs.declared.part.Part.{Part}

@@ -7,7 +7,7 @@ ghost use Rattle.ll_window.specs.Wants as spec;
 
 use crate::part_position::PartPosition;
 use crate::window::Window;
-use ll_item::Settings;
+use ll_settings::Settings;
 
 impl PartPosition {
     /// Returns whether the part at this position is part `part` of segment `msn`, or comes after it.

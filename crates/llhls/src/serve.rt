@@ -8,11 +8,11 @@ use ll_command::Fault;
 use ll_device::Listener;
 use ll_format::UtcTime;
 use ll_hub::{Bell, Blanks, Clock, Hub, HubFault, Ledgers, Pass, Sink};
-use ll_item::Settings;
 use ll_serve::{Bells, Gate, Role, Service, serve_links, serve_players};
 use ll_server::{
     CHANNELS, Config, ConfigFault, Log, Numbers, Records, SpoolFiles, Unusable, Workers,
 };
+use ll_settings::Settings;
 use ll_spool::Disk;
 use std::alloc::{AllocError, Global};
 use std::fs::File;

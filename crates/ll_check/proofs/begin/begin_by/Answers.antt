@@ -4,7 +4,7 @@ use Rattle.ll_attr.specs.Words.{pieces_at}
 use Rattle.ll_check.proofs.StepLemmas.{begun-parts, header-lines, header-wrong}
 use Rattle.ll_entry.proofs.ChainLemmas.{header-is}
 use Rattle.ll_entry.specs.Chain.{Inside, begun_by}
-use Rattle.ll_item.specs.Settings.{settings_in}
+use Rattle.ll_settings.specs.Settings.{settings_in}
 use Rattle.ll_check.proofs.begin.begin_by.Goals as goal
 
 pub returns-in-Ok-clause-right : goal.returns-in-Ok-clause-right

@@ -1,7 +1,7 @@
 -- Memory comes after a fault of the place.
 use Rattle.std.proofs.Common.{Err, ap}
 use Rattle.ll_check.proofs.HeaderLemmas.{place-first}
-use Rattle.ll_item.specs.Settings.{settings_in}
+use Rattle.ll_settings.specs.Settings.{settings_in}
 use Rattle.ll_check.proofs.begin.join.Goals as goal
 
 pub returns-in-Err-Memory-clause-wrong : goal.returns-in-Err-Memory-clause-wrong

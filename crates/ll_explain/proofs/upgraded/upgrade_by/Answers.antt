@@ -8,7 +8,7 @@ use Rattle.ll_entry.specs.Chain.{Between, Position}
 use Rattle.ll_explain.proofs.ExplainLemmas.{goes-later}
 use Rattle.ll_explain.proofs.UpgradedLemmas.{Writes, goes-writes, ok-of, writes-first, writes-on}
 use Rattle.ll_explain.specs.Upgrade.{told_text}
-use Rattle.ll_item.specs.Settings.{Configuration}
+use Rattle.ll_settings.specs.Settings.{Configuration}
 use Rattle.ll_explain.proofs.upgraded.upgrade_by.Goals as goal
 use Rattle.ll_explain.proofs.upgraded.upgrade_by.Goals.{Else-is_err, In-Some}
 

@@ -1,6 +1,6 @@
 -- The word after an item's line stands for the bytes that it spells.
 use Rattle.std.proofs.Common.{Some, [], ◌∷◌, sym, subst}
-use Rattle.ll_item.specs.Channels.{channel_of_name}
+use Rattle.ll_settings.specs.Channels.{channel_of_name}
 use Rattle.ll_script.specs.Lines.{item_before, offer_within}
 use Rattle.ll_script.specs.Reads.{IsRead}
 use Rattle.ll_script.proofs.AnnouncedLemmas.{offer-spelled}

@@ -1,6 +1,6 @@
 -- A question is what the line says.
 use Rattle.std.proofs.Common.{Ok, Some, [], ◌∷◌, subst}
-use Rattle.ll_item.specs.Channels.{channel_of_name}
+use Rattle.ll_settings.specs.Channels.{channel_of_name}
 use Rattle.ll_script.specs.Lines.{offer_by}
 use Rattle.ll_script.specs.Reads.{IsRead}
 use Rattle.ll_script.specs.declared.act.Acts.TheVariants as list

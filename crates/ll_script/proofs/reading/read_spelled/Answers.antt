@@ -1,6 +1,6 @@
 -- Half as many bytes are spelled as there are digits.
 use Rattle.std.proofs.Common.{Some, [], ◌∷◌, ap, sym, subst, ◌∙◌}
-use Rattle.ll_item.specs.Channels.{channel_of_name}
+use Rattle.ll_settings.specs.Channels.{channel_of_name}
 use Rattle.ll_item.specs.Media.{zeros}
 use Rattle.ll_script.specs.Reads.{IsRead}
 use Rattle.ll_script.proofs.AnnouncedLemmas.{offer-few, offer-many}

@@ -1,6 +1,6 @@
 -- A request names no channel, or its channel answers it or lets it wait, or it is out of memory.
 use Rattle.std.proofs.Common.{Err, ap, sym, true, false, ◌∙◌}
-use Rattle.ll_item.specs.Channels.{channel_of_name}
+use Rattle.ll_settings.specs.Channels.{channel_of_name}
 use Rattle.ll_script_rooms.specs.World.{silent}
 use Rattle.ll_connection.proofs.OpenLemmas.{is_asked, is_starved, is_unknown}
 use Rattle.ll_connection.proofs.open.Open.ask.Goals as goal

@@ -2,7 +2,7 @@ use Rattle.std.proofs.Common.{◌≡◌, ◌+◌, ◌++◌, ◌∷◌, [], List,
 use Rattle.std.specs.Str.{is_utf8}
 use Rattle.ll_entry.specs.Lines.{IsSpelled, entry_line}
 use Rattle.ll_entry.specs.declared.entry.Recorded.TheVariants as recorded
-use Rattle.ll_item.specs.Settings.{limit_broken}
+use Rattle.ll_settings.specs.Settings.{limit_broken}
 use Rattle.ll_entry.specs.Leads.{with_end}
 use Rattle.ll_verdict.specs.Events.{Event, Close}
 use Rattle.ll_record.proofs.Next.{uncounted}

@@ -4,7 +4,7 @@ use Rattle.ll_entry.specs.Lines.{entry_line}
 use Rattle.ll_entry.specs.declared.entry.Recorded.{Recorded}
 use Rattle.ll_entry.specs.declared.entry.Recorded.TheVariants as recorded
 use Rattle.ll_directive.specs.Files.{is_playlist}
-use Rattle.ll_item.specs.Settings.{limit_broken}
+use Rattle.ll_settings.specs.Settings.{limit_broken}
 use Rattle.ll_entry.specs.Leads.{with_end}
 use Rattle.std.specs.Prelude.{option_map}
 use Rattle.ll_room.specs.Answers.{new_tickets}

@@ -1,6 +1,6 @@
 use Rattle.std.proofs.Common.{◌≡◌, ◌≤◌, ◌^◌, List, None, true, ap, ap₂, arith, subst, sym, ◌∙◌}
 use Rattle.std.specs.Str.{is_utf8}
-use Rattle.ll_item.specs.Settings.{limit_broken}
+use Rattle.ll_settings.specs.Settings.{limit_broken}
 use Rattle.ll_entry.specs.Leads.{chunk_text}
 use Rattle.ll_entry.specs.SettingsLine.{settings_line}
 use Rattle.ll_record.proofs.ChunkText.{faithful}

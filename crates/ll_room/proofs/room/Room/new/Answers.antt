@@ -1,6 +1,6 @@
 -- Nothing has happened.
 use Rattle.std.proofs.Common.{◌≡◌, ◌≤◌, None, ap, subst, sym, ◌∙◌}
-use Rattle.ll_item.specs.Settings.{limit_broken}
+use Rattle.ll_settings.specs.Settings.{limit_broken}
 use Rattle.ll_page_cache.specs.Stored.{AreFew}
 use Rattle.ll_room.proofs.KeptLemmas.{kept-new}
 use Rattle.ll_store.specs.Stores.{all_kept}

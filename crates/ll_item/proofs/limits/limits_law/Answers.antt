@@ -1,6 +1,0 @@
--- The two directions of the law.
-use Rattle.ll_item.proofs.WithinLimits.{within, none_broken}
-use Rattle.ll_item.proofs.limits.limits_law.Goals as goal
-
-pub returns : goal.returns
-returns c d = (within d, none_broken d)

@@ -1,0 +1,4 @@
+-- Lemmas of settings, their limits and channels' names.
+pub mod ChannelLemmas
+pub mod SameLemmas
+pub mod WithinLimits
