@@ -7,8 +7,8 @@ ghost use Rattle.ll_link.specs.Faults.{IsOwn};
 
 use crate::fault::LinkFault;
 use crate::service::Service;
+use ll_counts::Gate;
 use ll_hub::{Claim, Hub, HubFault, Ledgers, Pass, Waited};
-use ll_server::Gate;
 use ll_wire::Answer;
 use std::sync::Wait;
 use std::time::{self, Duration};

@@ -16,8 +16,8 @@ mod service;
 
 pub use connection::{Connection, Step};
 pub use fault::LinkFault;
+pub use ll_counts::Gate;
 pub use ll_device::{Link, Role, TryLink};
 pub use ll_hub::Bell;
-pub use ll_server::Gate;
 pub use serve::{serve_link, serve_link_within};
 pub use service::Service;

@@ -7,9 +7,9 @@ ghost use Rattle.ll_link.specs.Sending.{HasSent, IsFront};
 
 use crate::fault::LinkFault;
 use crate::mode::Mode;
+use ll_counts::Gate;
 use ll_device::{Failed, Link};
 use ll_item::SharedBytes;
-use ll_server::Gate;
 use ll_session::Session;
 use ll_wire::Slices;
 use std::sync::Wait;

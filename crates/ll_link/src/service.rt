@@ -3,8 +3,8 @@ ghost use Rattle.std.specs.Prelude.{◌≡◌, IfOk};
 ghost use Rattle.ll_link.specs.Faults.{IsOwn};
 
 use crate::fault::LinkFault;
+use ll_counts::Gate;
 use ll_hub::{Hub, Ledgers, Sink};
-use ll_server::Gate;
 use ll_spool::Spool;
 use std::alloc::Global;
 use std::marker::Model;

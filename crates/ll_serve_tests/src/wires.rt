@@ -4,9 +4,10 @@ ghost use Rattle.std.specs.Prelude.{◌≡◌, ◌+◌, ◌≤◌, None, if◌th
 use crate::hubs::{Silent, Stopped};
 use ll_device::{Failed, Writer};
 use ll_hub::{Hub, Ledgers, Sink};
+use ll_layout::{Place, Side};
 use ll_record::Chunk;
 use ll_serve::{Gate, Link, Service};
-use ll_spool::{Disk, Lost, Place, Side, Spool};
+use ll_spool::{Disk, Lost, Spool};
 use std::alloc::{AllocError, Global};
 use std::str;
 use std::sync::Mutex;

@@ -1,5 +1,5 @@
 //! A test of settings files.
-use ll_server::Config;
+use ll_config::Config;
 use std::alloc::{AllocError, Global};
 use std::process::Abort;
 use std::test::Fail;

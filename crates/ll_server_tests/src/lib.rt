@@ -1,4 +1,4 @@
-//! Tests of `ll_server`. They have a crate of their own so that `ll_server` isn't proved a second time for them.
+//! Tests of `ll_config` and `ll_counts`. They have a crate of their own so that these aren't proved a second time for them.
 #![tactic(auto)]
 
 #[cfg(test)]

@@ -1,8 +1,8 @@
 //! A test of the numbers that an operator reads.
 use crate::answers::{SHORT, answer};
+use ll_counts::{Gate, Numbers};
 use ll_format::UtcTime;
 use ll_publish::Refusal;
-use ll_server::{Gate, Numbers};
 use ll_settings::Settings;
 use ll_verdict::PublishFault;
 use std::alloc::{AllocError, Global};

@@ -3,7 +3,7 @@ ghost use Rattle.std.specs.Prelude.{◌≡◌, List, OnErr, OnOk, Option, ℕ};
 ghost use Rattle.std.specs.Io.KnownBytes.{Appends};
 ghost use Rattle.ll_device.specs.Written.{AppendsPrefix};
 
-use crate::side::{Place, Side};
+use ll_layout::{Place, Side};
 
 /// A call of a disk failed.
 #[derive(Clone, Copy, Debug, PartialEq, Eq)]

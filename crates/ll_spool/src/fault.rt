@@ -8,26 +8,6 @@ use std::alloc::AllocError;
 #[derive(Clone, Copy, Debug, PartialEq, Eq)]
 pub struct NotKept;
 
-/// Why an item can't be added to what is kept in mind of a channel.
-#[derive(Clone, Copy, Debug, PartialEq, Eq)]
-pub(crate) enum AddFault {
-    /// A rule of the channel refuses it.
-    Refused,
-    /// Out of memory.
-    Memory,
-}
-
-impl From<AllocError> for AddFault {
-    ghost use Rattle.std.specs.Prelude.{◌≡◌};
-    ghost use Rattle.ll_spool.specs.declared.fault.AddFault.TheVariants.{Memory};
-
-    ghost from_gives = { λ error fault. fault ≡ Memory };
-
-    fn from(_error: AllocError) -> AddFault {
-        AddFault::Memory
-    }
-}
-
 /// Why a spool can't be restored.
 #[derive(Clone, Copy, Debug, PartialEq, Eq)]
 pub enum RestoreFault {

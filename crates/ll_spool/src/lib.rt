@@ -5,17 +5,12 @@
 mod disk;
 mod fault;
 mod filled;
-mod layout;
 mod line;
 mod lines;
 mod restoring;
-mod side;
 mod spool;
-mod survey;
-mod track;
 
 pub use disk::{Disk, Lost};
 pub use fault::{NotKept, RestoreFault};
 pub use restoring::{Accepts, restore};
-pub use side::{Place, Side};
 pub use spool::Spool;

@@ -6,16 +6,14 @@ ghost use Rattle.ll_spool.specs.Restored.{IsPublished, IsRestored, IsSpelledBy, 
 ghost use Rattle.ll_spool.specs.Spooled.{items_from, lines_in};
 
 use crate::disk::Disk;
-use crate::fault::{AddFault, RestoreFault};
+use crate::fault::RestoreFault;
 use crate::filled::{filled, item_len};
-use crate::layout::Layout;
 use crate::line::{bad, read_line};
 use crate::lines::{Lines, cut_line};
-use crate::side::Place;
 use crate::spool::Spool;
-use crate::survey::{Stored, Survey};
 use ll_entry::settings_text;
 use ll_item::{Item, Media, Payload};
+use ll_layout::{AddFault, Layout, Place, Stored, Survey};
 use ll_settings::Settings;
 use std::alloc::{AllocError, Global};
 

@@ -5,12 +5,10 @@ ghost use Rattle.ll_spool.specs.Spooled.{spooled_line};
 
 use crate::disk::Disk;
 use crate::fault::NotKept;
-use crate::layout::{Layout, media_of};
 use crate::line::push_line;
-use crate::side::Side;
-use crate::track::{Section, Track};
 use ll_entry::settings_text;
 use ll_item::{Item, Media};
+use ll_layout::{Layout, Section, Side, Track, media_of};
 use ll_settings::Settings;
 use std::alloc::Global;
 

@@ -3,9 +3,9 @@ ghost use Rattle.std.specs.Prelude.{None};
 
 use crate::stop::Stop;
 use ll_command::Fault;
+use ll_files::SpoolFiles;
 use ll_hub::{Bell, Hub, HubFault, Ledgers, Pass, RoomFault, Sink};
 use ll_item::Item;
-use ll_server::SpoolFiles;
 use ll_spool::{Accepts, RestoreFault, Spool, restore};
 use ll_verdict::PublishFault;
 use std::alloc::{AllocError, Global};

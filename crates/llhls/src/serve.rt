@@ -5,13 +5,13 @@ ghost use Rattle.std.specs.Prelude.{◌≡◌, ◌≤◌, ◌^◌, length};
 use crate::restoring::{Spools, push, restore_all};
 use crate::stop::Stop;
 use ll_command::Fault;
+use ll_config::{CHANNELS, Config, ConfigFault, Workers};
+use ll_counts::Numbers;
 use ll_device::Listener;
+use ll_files::{Log, Records, SpoolFiles, Unusable};
 use ll_format::UtcTime;
 use ll_hub::{Bell, Blanks, Clock, Hub, HubFault, Ledgers, Pass, Sink};
 use ll_serve::{Bells, Gate, Role, Service, serve_links, serve_players};
-use ll_server::{
-    CHANNELS, Config, ConfigFault, Log, Numbers, Records, SpoolFiles, Unusable, Workers,
-};
 use ll_settings::Settings;
 use ll_spool::Disk;
 use std::alloc::{AllocError, Global};

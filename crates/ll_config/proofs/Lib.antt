@@ -1,0 +1,4 @@
+-- Lemmas of a settings file.
+pub mod ChannelLemmas
+pub mod ConfigLemmas
+pub mod LineLemmas

@@ -1,0 +1,3 @@
+-- The definitions of this crate: a server's settings file.
+pub mod Config
+pub mod Faults

@@ -1,0 +1,2 @@
+-- Lemmas of the queue of chunks.
+pub mod QueueLemmas

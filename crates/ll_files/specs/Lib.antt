@@ -1,0 +1,2 @@
+-- The definitions of this crate: the queue of chunks.
+pub mod Queue

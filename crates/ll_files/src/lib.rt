@@ -1,0 +1,12 @@
+//! The files that a server writes as it runs: its channels' records and spools, and its log.
+#![tactic(auto)]
+
+mod journal;
+mod log;
+mod queue;
+mod records;
+mod spool_files;
+
+pub use log::Log;
+pub use records::Records;
+pub use spool_files::{SpoolFiles, Unusable};

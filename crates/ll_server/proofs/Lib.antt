@@ -1,4 +1,0 @@
-pub mod ChannelLemmas
-pub mod ConfigLemmas
-pub mod LineLemmas
-pub mod QueueLemmas

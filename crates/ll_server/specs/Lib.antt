@@ -1,4 +1,0 @@
--- The definitions of this crate: a server's settings file.
-pub mod Config
-pub mod Faults
-pub mod Queue
