@@ -8,7 +8,7 @@ ghost use Rattle.ll_item.specs.Items as spec;
 
 use crate::item::{Item, ItemFault, PartItem};
 use crate::media::{Media, Payload};
-use crate::named::named;
+use crate::naming::named;
 use ll_attr::{
     AttrFault, AttrList, AttrValue, Attribute, Text, after, cut, one_word, parse_number,
 };
