@@ -3,11 +3,13 @@ ghost use Rattle.std.specs.Prelude.{◌≡◌};
 
 use std::alloc::AllocError;
 
-/// Why an item can't be added to what is kept in mind of a channel.
+/// Why an item can't be added to what is kept in mind of its rendition.
 #[derive(Clone, Copy, Debug, PartialEq, Eq)]
 pub enum AddFault {
-    /// A rule of the channel refuses it.
+    /// A rule of the rendition refuses it.
     Refused,
+    /// The file of its bytes would have 2^63 bytes or more.
+    TooLarge,
     /// Out of memory.
     Memory,
 }

@@ -1,14 +1,15 @@
-//! Which bytes of a channel's items are kept in its spool, and where: a function of the items alone.
+//! Which bytes of a rendition's items are kept in its channel's spool, and where: a function of the items alone.
 #![tactic(auto)]
 
+mod bytes;
 mod fault;
 mod layout;
+mod moves;
 mod side;
-mod survey;
-mod track;
+mod stored;
 
+pub use bytes::media_of;
 pub use fault::AddFault;
-pub use layout::{Layout, media_of};
-pub use side::{Place, Side};
-pub use survey::{Stored, Survey};
-pub use track::{Section, Track};
+pub use layout::Layout;
+pub use side::Side;
+pub use stored::{Place, Section, Stored};

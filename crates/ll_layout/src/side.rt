@@ -1,6 +1,8 @@
-//! The places of items' bytes.
+//! The two files of a rendition's bytes.
+ghost use Rattle.std.specs.Prelude.{◌≡◌};
+ghost use Rattle.ll_layout.specs.Held as spec;
 
-/// One of the two files that have the bytes of a channel's items.
+/// One of the two files that have the bytes of a rendition's items.
 #[derive(Clone, Copy, Debug, PartialEq, Eq)]
 pub enum Side {
     /// The file that is written first.
@@ -11,21 +13,12 @@ pub enum Side {
 
 impl Side {
     /// Returns the other side.
-    pub fn other(self) -> Side {
+    pub fn other(self) -> Side
+        ensures { result ≡ spec.other self }
+    {
         match self {
             Side::A => Side::B,
             Side::B => Side::A,
         }
     }
-}
-
-/// The place of an item's bytes.
-#[derive(Clone, Copy, Debug, PartialEq, Eq)]
-pub struct Place {
-    /// The file.
-    pub side: Side,
-    /// The number of bytes before them in the file.
-    pub offset: u64,
-    /// The number of bytes.
-    pub length: u64,
 }

@@ -1,0 +1,3 @@
+-- Lemmas of what is kept of a rendition's bytes.
+pub mod HoldLemmas
+pub mod MoveLemmas
