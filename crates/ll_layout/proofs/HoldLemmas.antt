@@ -1,9 +1,9 @@
 -- What stands in the files stays there.
-use Rattle.std.proofs.Common.{◌≡◌, ◌≤◌, ◌+◌, ℕ, zero, suc, List, [], ◌∷◌, ◌++◌, Bool, true, false, not, ◌==◌, nat_le, Option, Some, None, refl, ap, sym, subst, ◌∙◌, length, length-append, append_assoc, append-nil, filter, arith}
+use Rattle.std.proofs.Common.{◌≡◌, ◌≤◌, ◌+◌, ℕ, zero, suc, List, [], ◌∷◌, ◌++◌, Bool, true, false, not, ◌==◌, nat_le, refl, ap, sym, subst, ◌∙◌, length, length-append, append_assoc, append-nil, filter, arith}
 use Rattle.ll_item.specs.Items.{media_of}
 use Rattle.ll_item.specs.declared.item.Item.{Item}
 use Rattle.ll_item.specs.declared.item.Item.TheVariants as item
-use Rattle.ll_layout.specs.Held.{Each, HasLength, Holds, IsAt, IsAtIn, IsHeld, IsWithin, LayoutValue, appended, file_by, only, other, sections_size, sections_text, with_file}
+use Rattle.ll_layout.specs.Held.{Each, Holds, IsAt, IsHeld, IsWithin, LayoutValue, file_by, other, sections_size, sections_text, with_file}
 use Rattle.ll_layout.specs.Moves.{IsTidy, added, first_shown, and_part, and_section, but_map, next_stored, newer_from, now_on, placed, shown_from, with_item, with_part, with_section, without_gone}
 use Rattle.ll_layout.specs.declared.side.Side.{Side}
 use Rattle.ll_layout.specs.declared.side.Side.TheVariants.{A, B}
@@ -13,7 +13,7 @@ use Rattle.ll_layout.specs.declared.stored.Stored.{Stored}
 use Rattle.ll_window.specs.Compact.{Compact, first_map, map_now}
 
 abbrev Files : Type 0
-Files = Side → Option (List ℕ)
+Files = Side → List ℕ
 
 each-append : {A : Type 0} (P : A → Type 0) (xs ys : List A) → Each P xs → Each P ys → Each P (xs ++ ys)
 each-append P [] ys a b = b
@@ -29,9 +29,8 @@ each-filter p P (x ∷ xs) a = filter-by P p x xs (p x) refl a.0 (each-filter p 
 
 -- ---- a file that grows
 
-at-appended : (file : Option (List ℕ)) (more : List ℕ) (offset : ℕ) (bytes : List ℕ) → IsAtIn file offset bytes → IsAtIn (appended more file) offset bytes
-at-appended None more offset bytes a = a
-at-appended (Some file) more offset bytes a = record {
+at-appended : (file more : List ℕ) (offset : ℕ) (bytes : List ℕ) → IsAt file offset bytes → IsAt (file ++ more) offset bytes
+at-appended file more offset bytes a = record {
   before = a.before;
   later = a.later ++ more;
   is = ap (λ f. f ++ more) a.is ∙ append_assoc a.before (bytes ++ a.later) more ∙ ap (λ xs. a.before ++ xs) (append_assoc bytes a.later more);
@@ -39,61 +38,57 @@ at-appended (Some file) more offset bytes a = record {
 }
 
 -- what is appended stands at the end
-at-end : (file : Option (List ℕ)) (bytes : List ℕ) (end : ℕ) → HasLength file end → IsAtIn (appended bytes file) end bytes
-at-end None bytes end h = h
-at-end (Some file) bytes end h = record { before = file; later = []; is = ap (λ xs. file ++ xs) (sym (append-nil bytes)); offset_is = h }
+at-end : (file bytes : List ℕ) (end : ℕ) → length file ≡ end → IsAt (file ++ bytes) end bytes
+at-end file bytes end h = record { before = file; later = []; is = ap (λ xs. file ++ xs) (sym (append-nil bytes)); offset_is = h }
 
-long : (file : Option (List ℕ)) (bytes : List ℕ) (end : ℕ) → HasLength file end → HasLength (appended bytes file) (end + length bytes)
-long None bytes end h = h
-long (Some file) bytes end h = let e : length (file ++ bytes) ≡ length file + length bytes = length-append file bytes in omega (arith, e, h)
+at-here : (side : Side) (files : Files) (file : List ℕ) → with_file side file files side ≡ file
+at-here A files file = refl
+at-here B files file = refl
 
-at-by : (files : Files) (side at : Side) (more : List ℕ) (offset : ℕ) (bytes : List ℕ) → IsAtIn (files at) offset bytes
-    → IsAtIn (with_file side (appended more (files side)) files at) offset bytes
+at-by : (files : Files) (side at : Side) (more : List ℕ) (offset : ℕ) (bytes : List ℕ) → IsAt (files at) offset bytes → IsAt (with_file side (files side ++ more) files at) offset bytes
 at-by files A A more offset bytes a = at-appended (files A) more offset bytes a
 at-by files A B more offset bytes a = a
 at-by files B A more offset bytes a = a
 at-by files B B more offset bytes a = at-appended (files B) more offset bytes a
 
-end-by : (files : Files) (side : Side) (bytes : List ℕ) (end : ℕ) → HasLength (files side) end → IsAtIn (with_file side (appended bytes (files side)) files side) end bytes
-end-by files A bytes end h = at-end (files A) bytes end h
-end-by files B bytes end h = at-end (files B) bytes end h
+end-by : (files : Files) (side : Side) (bytes : List ℕ) (end : ℕ) → length (files side) ≡ end → IsAt (with_file side (files side ++ bytes) files side) end bytes
+end-by files side bytes end h = subst (λ file. IsAt file end bytes) (sym (at-here side files (files side ++ bytes))) (at-end (files side) bytes end h)
 
-long-by : (files : Files) (side : Side) (bytes : List ℕ) (end : ℕ) → HasLength (files side) end
-    → HasLength (with_file side (appended bytes (files side)) files side) (end + length bytes)
-long-by files A bytes end h = long (files A) bytes end h
-long-by files B bytes end h = long (files B) bytes end h
+long-by : (files : Files) (side : Side) (bytes : List ℕ) (end : ℕ) → length (files side) ≡ end → length (with_file side (files side ++ bytes) files side) ≡ end + length bytes
+long-by files side bytes end h =
+    ap length (at-here side files (files side ++ bytes)) ∙ (let n : length (files side ++ bytes) ≡ length (files side) + length bytes = length-append (files side) bytes in omega (arith, n, h))
 
-held-on : (files : Files) (of : ℕ → List ℕ) (side : Side) (more : List ℕ) (s : Stored) → IsHeld files of s → IsHeld (with_file side (appended more (files side)) files) of s
+held-on : (files : Files) (of : ℕ → List ℕ) (side : Side) (more : List ℕ) (s : Stored) → IsHeld files of s → IsHeld (with_file side (files side ++ more) files) of s
 held-on files of side more s h = record { at = at-by files side s.place.side more s.place.offset (of s.count) h.at; length = h.length }
 
 parts-on : (files : Files) (of : ℕ → List ℕ) (side : Side) (more : List ℕ) (ps : List KeptPart) → Each (λ (p : KeptPart). IsHeld files of p.stored) ps
-    → Each (λ (p : KeptPart). IsHeld (with_file side (appended more (files side)) files) of p.stored) ps
+    → Each (λ (p : KeptPart). IsHeld (with_file side (files side ++ more) files) of p.stored) ps
 parts-on files of side more [] a = a
 parts-on files of side more (p ∷ ps) a = (held-on files of side more p.stored a.0, parts-on files of side more ps a.1)
 
 sections-on : (files : Files) (of : ℕ → List ℕ) (side : Side) (more : List ℕ) (ss : List Section) → Each (λ (s : Section). IsHeld files of s.stored) ss
-    → Each (λ (s : Section). IsHeld (with_file side (appended more (files side)) files) of s.stored) ss
+    → Each (λ (s : Section). IsHeld (with_file side (files side ++ more) files) of s.stored) ss
 sections-on files of side more [] a = a
 sections-on files of side more (s ∷ ss) a =
     (held-on files of side more s.stored a.0, sections-on files of side more ss a.1)
 
--- all bytes that are kept stand where they did after more are appended, but for how long the file is
+-- all bytes that are kept stand where they did after more are but for how long the file is
 record AreHeld (files : Files) (of : ℕ → List ℕ) (l : LayoutValue) : Type 0 where
   older : Each (λ (p : KeptPart). IsHeld files of p.stored) l.older
   newer : Each (λ (p : KeptPart). IsHeld files of p.stored) l.newer
   sections : Each (λ (s : Section). IsHeld files of s.stored) l.sections
 
-all-on : (files : Files) (of : ℕ → List ℕ) (side : Side) (more : List ℕ) (l : LayoutValue) → Holds files of l → AreHeld (with_file side (appended more (files side)) files) of l
+all-on : (files : Files) (of : ℕ → List ℕ) (side : Side) (more : List ℕ) (l : LayoutValue) → Holds files of l → AreHeld (with_file side (files side ++ more) files) of l
 all-on files of side more l h = record {
   older = parts-on files of side more l.older h.older;
   newer = parts-on files of side more l.newer h.newer;
   sections = sections-on files of side more l.sections h.sections;
 }
 
-next-held : (files : Files) (of : ℕ → List ℕ) (count : ℕ) (l : LayoutValue) (bytes : List ℕ) → HasLength (files l.side) l.end → of count ≡ bytes
-    → IsHeld (with_file l.side (appended bytes (files l.side)) files) of (next_stored count (length bytes) l)
+next-held : (files : Files) (of : ℕ → List ℕ) (count : ℕ) (l : LayoutValue) (bytes : List ℕ) → length (files l.side) ≡ l.end → of count ≡ bytes
+    → IsHeld (with_file l.side (files l.side ++ bytes) files) of (next_stored count (length bytes) l)
 next-held files of count l bytes h is = record {
-  at = subst (IsAtIn (with_file l.side (appended bytes (files l.side)) files l.side) l.end) (sym is) (end-by files l.side bytes l.end h);
+  at = subst (IsAt (with_file l.side (files l.side ++ bytes) files l.side) l.end) (sym is) (end-by files l.side bytes l.end h);
   length = ap length (sym is);
 }
 
@@ -108,52 +103,42 @@ and-section P s ss all one = each-append P (but_map s.map ss) (s ∷ []) (each-f
 
 -- the files hold what is kept with an item's bytes appended
 pub with-part-holds : (files : Files) (of : ℕ → List ℕ) (number count : ℕ) (bytes : List ℕ) (l : LayoutValue) → Holds files of l → of count ≡ bytes
-    → Holds (with_file l.side (appended bytes (files l.side)) files) of (with_part number count (length bytes) l)
+    → Holds (with_file l.side (files l.side ++ bytes) files) of (with_part number count (length bytes) l)
 with-part-holds files of number count bytes l h is =
     let on = all-on files of l.side bytes l h in
     record {
       older = on.older;
-      newer = and-part (λ (p : KeptPart). IsHeld (with_file l.side (appended bytes (files l.side)) files) of p.stored) (length bytes)
+      newer = and-part (λ (p : KeptPart). IsHeld (with_file l.side (files l.side ++ bytes) files) of p.stored) (length bytes)
           (record { number = number; stored = next_stored count (length bytes) l }) l.newer on.newer (next-held files of count l bytes h.end is);
       sections = on.sections;
       end = long-by files l.side bytes l.end h.end;
     }
 
 pub with-section-holds : (files : Files) (of : ℕ → List ℕ) (map count : ℕ) (bytes : List ℕ) (l : LayoutValue) → Holds files of l → of count ≡ bytes
-    → Holds (with_file l.side (appended bytes (files l.side)) files) of (with_section map count (length bytes) l)
+    → Holds (with_file l.side (files l.side ++ bytes) files) of (with_section map count (length bytes) l)
 with-section-holds files of map count bytes l h is =
     let on = all-on files of l.side bytes l h in
     record {
       older = on.older;
       newer = on.newer;
-      sections = and-section (λ (s : Section). IsHeld (with_file l.side (appended bytes (files l.side)) files) of s.stored)
+      sections = and-section (λ (s : Section). IsHeld (with_file l.side (files l.side ++ bytes) files) of s.stored)
           (record { map = map; stored = next_stored count (length bytes) l }) l.sections on.sections (next-held files of count l bytes h.end is);
       end = long-by files l.side bytes l.end h.end;
     }
 
-same-file : (files : Files) (side at : Side) (file : Option (List ℕ)) → file ≡ files side → with_file side file files at ≡ files at
-same-file files A A file e = e
-same-file files A B file e = refl
-same-file files B A file e = refl
-same-file files B B file e = e
-
-nothing : (file : Option (List ℕ)) → appended [] file ≡ file
-nothing None = refl
-nothing (Some file) = ap Some (append-nil file)
-
 -- nothing is appended
-none-holds : (files : Files) (of : ℕ → List ℕ) (l : LayoutValue) → Holds files of l → Holds (with_file l.side (appended [] (files l.side)) files) of l
+none-holds : (files : Files) (of : ℕ → List ℕ) (l : LayoutValue) → Holds files of l → Holds (with_file l.side (files l.side ++ []) files) of l
 none-holds files of l h =
     let on = all-on files of l.side [] l h in
     record {
       older = on.older;
       newer = on.newer;
       sections = on.sections;
-      end = subst (λ file. HasLength file l.end) (sym (same-file files l.side l.side (appended [] (files l.side)) (nothing (files l.side)))) h.end;
+      end = ap length (at-here l.side files (files l.side ++ []) ∙ append-nil (files l.side)) ∙ h.end;
     }
 
 item-holds : (files : Files) (of : ℕ → List ℕ) (count : ℕ) (i : Item) (k : Compact) (l : LayoutValue) → Holds files of l → of count ≡ media_of i
-    → Holds (with_file l.side (appended (media_of i) (files l.side)) files) of (with_item count i k l)
+    → Holds (with_file l.side (files l.side ++ media_of i) files) of (with_item count i k l)
 item-holds files of count (item.Part part) k l h is = with-part-holds files of k.next_number count part.media l h is
 item-holds files of count (item.Init rendition media) k l h is = with-section-holds files of (map_now k) count media l h is
 item-holds files of count (item.Finish rendition) k l h is = none-holds files of l h
@@ -189,10 +174,10 @@ gone-holds files of l h =
     }
 
 pub added-holds : (files : Files) (of : ℕ → List ℕ) (count : ℕ) (i : Item) (k : Compact) (l : LayoutValue) → Holds files of l → of count ≡ media_of i
-    → Holds (with_file l.side (appended (media_of i) (files l.side)) files) of (added count i k l)
+    → Holds (with_file l.side (files l.side ++ media_of i) files) of (added count i k l)
 added-holds files of count i k l h is =
     let same : Holds files of (record l { window = k }) = record { older = h.older; newer = h.newer; sections = h.sections; end = h.end } in
-    gone-holds (with_file l.side (appended (media_of i) (files l.side)) files) of (with_item count i l.window (record l { window = k }))
+    gone-holds (with_file l.side (files l.side ++ media_of i) files) of (with_item count i l.window (record l { window = k }))
     (item-holds files of count i l.window (record l { window = k }) same is)
 
 pub gone-tidy : (l : LayoutValue) → IsTidy l.side l.end l.end_before l.older l.newer l.sections
@@ -207,41 +192,30 @@ gone-tidy l h =
 
 -- ---- the other side
 
-apart : (side : Side) (files : Files) (file : Option (List ℕ)) → with_file (other side) file files side ≡ files side
+apart : (side : Side) (files : Files) (file : List ℕ) → with_file (other side) file files side ≡ files side
 apart A files file = refl
 apart B files file = refl
 
-moved : (files : Files) (of : ℕ → List ℕ) (side : Side) (end : ℕ) (file : Option (List ℕ)) (s : Stored) → IsWithin side end s → IsHeld files of s
+moved : (files : Files) (of : ℕ → List ℕ) (side : Side) (end : ℕ) (file : List ℕ) (s : Stored) → IsWithin side end s → IsHeld files of s
     → IsHeld (with_file (other side) file files) of s
 moved files of side end file s inside h = record {
-  at = subst (λ f. IsAtIn f s.place.offset (of s.count)) (sym (ap (with_file (other side) file files) inside.on ∙ apart side files file ∙ sym (ap files inside.on))) h.at;
+  at = subst (λ f. IsAt f s.place.offset (of s.count)) (sym (ap (with_file (other side) file files) inside.on ∙ apart side files file ∙ sym (ap files inside.on))) h.at;
   length = h.length;
 }
 
-all-moved : (files : Files) (of : ℕ → List ℕ) (side : Side) (end : ℕ) (file : Option (List ℕ)) (ps : List KeptPart) → Each (λ (p : KeptPart). IsWithin side end p.stored) ps
+all-moved : (files : Files) (of : ℕ → List ℕ) (side : Side) (end : ℕ) (file : List ℕ) (ps : List KeptPart) → Each (λ (p : KeptPart). IsWithin side end p.stored) ps
     → Each (λ (p : KeptPart). IsHeld files of p.stored) ps → Each (λ (p : KeptPart). IsHeld (with_file (other side) file files) of p.stored) ps
 all-moved files of side end file [] inside all = all
 all-moved files of side end file (p ∷ ps) inside all = (moved files of side end file p.stored inside.0 all.0, all-moved files of side end file ps inside.1 all.1)
 
--- a section's bytes in a file of sections
-at-only : (file : Option (List ℕ)) (before bytes later : List ℕ) (offset : ℕ) → length before ≡ offset → IsAtIn (only (before ++ (bytes ++ later)) file) offset bytes
-at-only None before bytes later offset e = tt
-at-only (Some file) before bytes later offset e = record { before = before; later = later; is = refl; offset_is = e }
-
-at-here : (side : Side) (files : Files) (file : Option (List ℕ)) → with_file side file files side ≡ file
-at-here A files file = refl
-at-here B files file = refl
-
 placed-holds : (files : Files) (of : ℕ → List ℕ) (side : Side) (text before : List ℕ) (offset : ℕ) (ss : List Section)
     → text ≡ before ++ sections_text of ss → length before ≡ offset → Each (λ (s : Section). IsHeld files of s.stored) ss
-    → Each (λ (s : Section). IsHeld (with_file side (only text (files side)) files) of s.stored) (placed side offset ss)
+    → Each (λ (s : Section). IsHeld (with_file side text files) of s.stored) (placed side offset ss)
 placed-holds files of side text before offset [] is e all = tt
 placed-holds files of side text before offset (s ∷ ss) is e all =
     let bytes = of s.stored.count in
-    let file : with_file side (only text (files side)) files side ≡ only (before ++ (bytes ++ sections_text of ss)) (files side) =
-    at-here side files (only text (files side)) ∙ ap (λ x. only x (files side)) is in
-    let at : IsAtIn (with_file side (only text (files side)) files side) offset bytes =
-    subst (λ f. IsAtIn f offset bytes) (sym file) (at-only (files side) before bytes (sections_text of ss) offset e) in
+    let at : IsAt (with_file side text files side) offset bytes =
+    record { before = before; later = sections_text of ss; is = at-here side files text ∙ is; offset_is = e } in
     let held = all.0 in (
       record { at = at; length = held.length },
       placed-holds files of side text (before ++ bytes) (offset + s.stored.place.length) ss (is ∙ sym (append_assoc before bytes (sections_text of ss)))
@@ -257,21 +231,16 @@ text-size files of (s ∷ ss) all =
     let n : length (sections_text of (s ∷ ss)) ≡ length (of s.stored.count) + length (sections_text of ss) = length-append (of s.stored.count) (sections_text of ss) in
     omega (arith, n, size, more)
 
-only-long : (file : Option (List ℕ)) (bytes : List ℕ) → HasLength (only bytes file) (length bytes)
-only-long None bytes = tt
-only-long (Some file) bytes = refl
-
 pub turned-holds : (files : Files) (of : ℕ → List ℕ) (l : LayoutValue) → l.older ≡ [] → IsTidy l.side l.end l.end_before l.older l.newer l.sections → Holds files of l
-    → Holds (with_file (other l.side) (only (sections_text of l.sections) (files (other l.side))) files) of (now_on (other l.side) l)
+    → Holds (with_file (other l.side) (sections_text of l.sections) files) of (now_on (other l.side) l)
 turned-holds files of l none tidy h =
     let side = other l.side in
-    let file = only (sections_text of l.sections) (files side) in
+    let file = sections_text of l.sections in
     record {
       older = all-moved files of l.side l.end file l.newer tidy.newer_within h.newer;
       newer = subst (Each (λ (p : KeptPart). IsHeld (with_file side file files) of p.stored)) (sym none) tt;
       sections = placed-holds files of side (sections_text of l.sections) [] 0 l.sections refl refl h.sections;
-      end = subst (HasLength (with_file side file files side)) (text-size files of l.sections h.sections)
-          (subst (λ f. HasLength f (length (sections_text of l.sections))) (sym (at-here side files file)) (only-long (files side) (sections_text of l.sections)));
+      end = ap length (at-here side files file) ∙ text-size files of l.sections h.sections;
     }
 
 placed-within : (side : Side) (end offset : ℕ) (ss : List Section) → offset + sections_size ss ≤ end → Each (λ (s : Section). IsWithin side end s.stored) (placed side offset ss)

@@ -1,5 +1,5 @@
 -- The bytes of a rendition's items in its two files.
-use Rattle.std.specs.Prelude.{◌≡◌, ◌≤◌, ◌+◌, ⊤, ℕ, List, [], ◌∷◌, ◌++◌, Option, Some, None, length, map, flat_map}
+use Rattle.std.specs.Prelude.{◌≡◌, ◌≤◌, ◌+◌, ⊤, ℕ, List, [], ◌∷◌, ◌++◌, length, map, flat_map}
 use Rattle.ll_layout.specs.declared.side.Side.{Side}
 use Rattle.ll_layout.specs.declared.side.Side.TheVariants.{A, B}
 use Rattle.ll_layout.specs.declared.stored.KeptPart.{KeptPart}
@@ -66,46 +66,26 @@ pub record IsAt (file : List ℕ) (offset : ℕ) (bytes : List ℕ) : Type 0 whe
   pub is : file ≡ before ++ (bytes ++ later)
   pub offset_is : length before ≡ offset
 
--- the same of a file that may be unknown
-abbrev pub IsAtIn : Option (List ℕ) → ℕ → List ℕ → Type 0
-IsAtIn None offset bytes = ⊤
-IsAtIn (Some file) offset bytes = IsAt file offset bytes
-
 -- the files have the item's bytes, those that `of` gives for its number
-pub record IsHeld (files : Side → Option (List ℕ)) (of : ℕ → List ℕ) (s : Stored) : Type 0 where
-  pub at : IsAtIn (files s.place.side) s.place.offset (of s.count)
+pub record IsHeld (files : Side → List ℕ) (of : ℕ → List ℕ) (s : Stored) : Type 0 where
+  pub at : IsAt (files s.place.side) s.place.offset (of s.count)
   pub length : s.place.length ≡ length (of s.count)
 
--- a file has `end` bytes, if it is known
-abbrev pub HasLength : Option (List ℕ) → ℕ → Type 0
-HasLength None end = ⊤
-HasLength (Some file) end = length file ≡ end
-
 -- the files have all bytes that are kept, those that `of` gives for the numbers of the items
-pub record Holds (files : Side → Option (List ℕ)) (of : ℕ → List ℕ) (l : LayoutValue) : Type 0 where
+pub record Holds (files : Side → List ℕ) (of : ℕ → List ℕ) (l : LayoutValue) : Type 0 where
   pub older : Each (λ (p : KeptPart). IsHeld files of p.stored) l.older
   pub newer : Each (λ (p : KeptPart). IsHeld files of p.stored) l.newer
   pub sections : Each (λ (s : Section). IsHeld files of s.stored) l.sections
-  pub end : HasLength (files l.side) l.end
+  pub end : length (files l.side) ≡ l.end
 
--- bytes are appended to a file, if it is known
-abbrev pub appended : List ℕ → Option (List ℕ) → Option (List ℕ)
-appended bytes None = None
-appended bytes (Some file) = Some (file ++ bytes)
-
--- a file has these bytes alone, if it is known
-abbrev pub only : List ℕ → Option (List ℕ) → Option (List ℕ)
-only bytes None = None
-only bytes (Some file) = Some bytes
-
-abbrev pub file_by : {A : Type 0} → Side → Side → A → A → A
+abbrev pub file_by : Side → Side → List ℕ → List ℕ → List ℕ
 file_by A A this that = this
 file_by B B this that = this
 file_by A B this that = that
 file_by B A this that = that
 
 -- the files with another in the place of one
-abbrev pub with_file : Side → Option (List ℕ) → (Side → Option (List ℕ)) → Side → Option (List ℕ)
+abbrev pub with_file : Side → List ℕ → (Side → List ℕ) → Side → List ℕ
 with_file side file files at = file_by side at file (files at)
 
 -- the bytes of sections, one after another

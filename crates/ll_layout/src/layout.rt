@@ -4,7 +4,7 @@ ghost use Rattle.std.specs.Arc.{arc_value};
 ghost use Rattle.ll_item.specs.Items.{media_of};
 ghost use Rattle.ll_item.specs.declared.item.Item.{Item as ItemValue};
 ghost use Rattle.ll_layout.specs.Held as spec;
-ghost use Rattle.ll_layout.specs.Held.{Holds, appended, sections_text, stored};
+ghost use Rattle.ll_layout.specs.Held.{Each, Holds, IsWithin, sections_text, stored};
 ghost use Rattle.ll_layout.specs.Moves.{added, has_bytes, next_stored, now_on, with_part, with_section, without_gone};
 ghost use Rattle.ll_layout.specs.declared.side.Side.{Side as SideValue};
 ghost use Rattle.ll_layout.specs.declared.stored.Section.{Section as SectionValue};
@@ -124,8 +124,8 @@ impl Layout {
     pub fn turn(&mut self) -> Result<(), AddFault>
         requires { self.old.older ≡ [] }
         ensures turned { OnOk result (self.new ≡ now_on (spec.other self.old.side) self.old) }
-        ensures holds { (files : SideValue → Option (List ℕ)) (of : ℕ → List ℕ) → Holds files of self.old
-            → OnOk result (Holds (spec.with_file (spec.other self.old.side) (spec.only (sections_text of self.old.sections) (files (spec.other self.old.side))) files) of self.new) }
+        ensures holds { (files : SideValue → List ℕ) (of : ℕ → List ℕ) → Holds files of self.old
+            → OnOk result (Holds (spec.with_file (spec.other self.old.side) (sections_text of self.old.sections) files) of self.new) }
     {
         let side = self.side.other();
         let sections = mem::replace(&mut self.sections, Vec::new(self.alloc));
@@ -149,8 +149,8 @@ impl Layout {
         ensures refused { (items : List ItemValue) → self.old.window ≡ compact self.old.window.settings items
             → IsErrOf result AddFault.Refused → refusal self.old.window.settings items item.now ≢ None }
         ensures added { OnOk result (self.new ≡ added count item.now self.new.window self.old) }
-        ensures holds { (files : SideValue → Option (List ℕ)) (of : ℕ → List ℕ) → Holds files of self.old → of count ≡ media_of item.now
-            → OnOk result (Holds (spec.with_file self.old.side (appended (media_of item.now) (files self.old.side)) files) of self.new) }
+        ensures holds { (files : SideValue → List ℕ) (of : ℕ → List ℕ) → Holds files of self.old → of count ≡ media_of item.now
+            → OnOk result (Holds (spec.with_file self.old.side (files self.old.side ++ media_of item.now) files) of self.new) }
     {
         let (number, map) = (self.window.next_number(), self.window.map_number());
         push(&mut self.window, item)?;
@@ -221,7 +221,8 @@ impl Layout {
 
     /// Returns the sections that may still be asked for.
     pub fn sections(&self) -> &[Section]
-        ensures { result.now ≡ self.now.sections }
+        ensures value { result.now ≡ self.now.sections }
+        ensures within { Each (λ (s : SectionValue). IsWithin self.now.side self.now.end s.stored) result.now }
     {
         &self.sections
     }

@@ -1,7 +1,9 @@
 //! The files of a channel's spool.
-ghost use Rattle.std.specs.Prelude.{◌≡◌, List, OnErr, OnOk, Option, ℕ};
+ghost use Rattle.std.specs.Prelude.{◌≡◌, ◌++◌, [], List, OnErr, OnOk, Option, take, true, ℕ};
 ghost use Rattle.std.specs.Io.KnownBytes.{Appends};
+ghost use Rattle.std.specs.Option.{option_map};
 ghost use Rattle.ll_device.specs.Written.{AppendsPrefix};
+ghost use Rattle.ll_spool.specs.Files.{Files, IsChanged, IsReadAt};
 
 use ll_layout::{Place, Side};
 
@@ -9,28 +11,41 @@ use ll_layout::{Place, Side};
 #[derive(Clone, Copy, Debug, PartialEq, Eq)]
 pub struct Lost;
 
-/// The files of a channel's spool: the text of its items, and the two sides of their bytes.
+/// The files of a channel's spool: the text of its items, and for each rendition the two sides of their bytes.
 pub trait Disk: Drop {
-    /// The text that was appended, if it is known.
+    /// The text, if it is known.
     ghost lines: { Self → Option (List ℕ) };
+
+    /// The bytes of each side of each rendition, if they are known.
+    ghost files: { Self → Option Files };
 
     /// Appends `text` to the text of the items.
     fn append_line(&mut self, text: &[u8]) -> Result<(), Lost>
         ensures whole { OnOk result (Appends (lines self.old) (lines self.new) text.now) }
-        ensures cut { OnErr result (AppendsPrefix (lines self.old) (lines self.new) text.now) };
+        ensures cut { OnErr result (AppendsPrefix (lines self.old) (lines self.new) text.now) }
+        ensures files { files self.new ≡ files self.old };
 
-    /// Appends `bytes` to the file of `side`.
-    fn append(&mut self, side: Side, bytes: &[u8]) -> Result<(), Lost>
-        ensures text { lines self.new ≡ lines self.old };
+    /// Appends `bytes` to the file of `side` of `rendition`.
+    fn append(&mut self, rendition: usize, side: Side, bytes: &[u8]) -> Result<(), Lost>
+        ensures text { lines self.new ≡ lines self.old }
+        ensures appended { OnOk result (IsChanged rendition side (λ file. file ++ bytes.now) (files self.old) (files self.new)) };
 
-    /// Drops all bytes of the file of `side`.
-    fn clear(&mut self, side: Side) -> Result<(), Lost>
-        ensures text { lines self.new ≡ lines self.old };
+    /// Drops all bytes of the file of `side` of `rendition`.
+    fn clear(&mut self, rendition: usize, side: Side) -> Result<(), Lost>
+        ensures text { lines self.new ≡ lines self.old }
+        ensures cleared { OnOk result (IsChanged rendition side (λ file. []) (files self.old) (files self.new)) };
 
-    /// Cuts the text to its first `text` bytes, and the files of the two sides to their first `a` and `b`.
-    fn cut(&mut self, text: u64, a: u64, b: u64) -> Result<(), Lost>;
+    /// Cuts the text to its first `length` bytes.
+    fn cut_text(&mut self, length: u64) -> Result<(), Lost>
+        ensures cut { OnOk result (lines self.new ≡ option_map (λ text. take length text) (lines self.old)) }
+        ensures files { files self.new ≡ files self.old };
 
-    /// Reads the bytes at `place`, and returns them at the front of `bytes`, which has at least as many; false if they aren't all there.
-    fn read(&mut self, place: Place, bytes: &mut [u8]) -> bool
-        ensures text { lines self.new ≡ lines self.old };
+    /// Cuts the file of `side` of `rendition` to its first `length` bytes.
+    fn cut(&mut self, rendition: usize, side: Side, length: u64) -> Result<(), Lost>
+        ensures text { lines self.new ≡ lines self.old }
+        ensures cut { OnOk result (IsChanged rendition side (λ file. take length file) (files self.old) (files self.new)) };
+
+    /// Reads the bytes of `rendition` at `place` into `bytes`, which has room for just these; false if they aren't all there.
+    fn read(&self, rendition: usize, place: Place, bytes: &mut [u8]) -> bool
+        ensures { result ≡ true → IsReadAt (files self.now) rendition place bytes.new };
 }

@@ -2,6 +2,7 @@
 ghost use Rattle.std.specs.Prelude.{◌≡◌};
 
 use crate::disk::Lost;
+use ll_layout::AddFault;
 use std::alloc::AllocError;
 
 /// An item wasn't kept, and no later one of its channel will be until the server is started again.
@@ -35,6 +36,16 @@ impl From<AllocError> for NotKept {
     ghost from_gives = { λ error fault. ⊤ };
 
     fn from(_error: AllocError) -> NotKept {
+        NotKept
+    }
+}
+
+impl From<AddFault> for NotKept {
+    ghost use Rattle.std.specs.Prelude.{⊤};
+
+    ghost from_gives = { λ error fault. ⊤ };
+
+    fn from(_error: AddFault) -> NotKept {
         NotKept
     }
 }

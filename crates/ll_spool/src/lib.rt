@@ -2,6 +2,7 @@
 //! the items, and two files of bytes of those whose media may still be asked for.
 #![tactic(auto)]
 
+mod bytes;
 mod disk;
 mod fault;
 mod filled;
@@ -13,4 +14,4 @@ mod spool;
 pub use disk::{Disk, Lost};
 pub use fault::{NotKept, RestoreFault};
 pub use restoring::{Accepts, restore};
-pub use spool::Spool;
+pub use spool::{Kept, Spool};

@@ -13,7 +13,7 @@ use crate::lines::{Lines, cut_line};
 use crate::spool::Spool;
 use ll_entry::settings_text;
 use ll_item::{Item, Media, Payload};
-use ll_layout::{AddFault, Layout, Place, Stored, Survey};
+use ll_layout::{AddFault, Layout, Place, Stored};
 use ll_settings::Settings;
 use std::alloc::{AllocError, Global};
 
@@ -33,50 +33,82 @@ pub fn restore<D: Disk, A: Accepts>(
     alloc: Global,
     settings: &Settings,
     text: &[u8],
-    mut disk: D,
+    disk: D,
     channel: &mut A,
 ) -> Result<(Spool<D>, u64), RestoreFault>
     ensures restored { IfOk result (λ r. IsRestored settings.now text.now (A.accepted channel.old) (A.accepted channel.new) r.1) }
+    ensures files { IfOk result (λ r. r.0.disk ≡ disk) }
 {
     let own = settings.copy(alloc)?;
     let Some((first, lines)) = cut_line(text) else {
-        let layout = Layout::new(alloc, settings)?;
-        return Ok((Spool::new(alloc, own, disk, layout, 0), 0));
+        let layouts = begun(alloc, settings)?;
+        return Ok((Spool::new(alloc, own, disk, layouts, 0), 0));
     };
     let line = settings_text(alloc, settings)?;
     if first != line.as_bytes() {
         return Err(RestoreFault::Line(1));
     }
-    let stored = survey(alloc, settings, lines)?;
-    let (layout, count, rest) = publish(alloc, settings, lines, &stored, &mut disk, channel)?;
+    let layouts = survey(alloc, settings, lines)?;
+    let stored = stored_in(alloc, &layouts)?;
+    let (count, rest) = publish(alloc, settings, lines, &stored, &disk, channel)?;
     let whole = text.len().saturating_sub(rest) as u64;
-    Ok((Spool::new(alloc, own, disk, layout, whole), count))
+    Ok((Spool::new(alloc, own, disk, layouts, whole), count))
 }
 
-/// Returns where the bytes are that may still be asked for after the items of `text`.
-fn survey(alloc: Global, settings: &Settings, text: &[u8]) -> Result<Vec<Stored>, RestoreFault> {
-    let mut survey = Survey::new(alloc, settings)?;
+/// Returns the layouts of the renditions of a channel without items.
+fn begun(alloc: Global, settings: &Settings) -> Result<Vec<Layout>, AllocError> {
+    let names = settings.renditions();
+    let mut layouts = Vec::with_capacity(alloc, names.len())?;
+    for _name in names {
+        layouts.push(Layout::new(alloc, settings)?)?;
+    }
+    Ok(layouts)
+}
+
+/// Returns where the bytes of each rendition are after the items of `text`.
+fn survey(alloc: Global, settings: &Settings, text: &[u8]) -> Result<Vec<Layout>, RestoreFault> {
+    let mut layouts = begun(alloc, settings)?;
     let mut lines = Lines::of(text);
     while let Some((count, line)) = lines.next() {
         let item = read_line(alloc, settings, count, line)?;
-        added(count, survey.add(count, &item))?;
+        added(count, follow(&mut layouts, count, &item))?;
     }
-    Ok(survey.finish(alloc)?)
+    Ok(layouts)
 }
 
-/// Publishes the items of `text`, with the bytes of those that are `stored`. Returns where the bytes are then, the number of items, and the
-/// number of bytes after the last line.
+/// Adds `item`, the channel's item of the number `count`, to the layout of its rendition.
+fn follow(layouts: &mut Vec<Layout>, count: u64, item: &Item) -> Result<(), AddFault> {
+    let Some(layout) = layouts.get_mut(item.rendition()) else {
+        return Err(AddFault::Refused);
+    };
+    if layout.turns_for(item) {
+        layout.turn()?;
+    }
+    layout.add(count, item)
+}
+
+/// Returns the bytes that may still be asked for, in the order of their items.
+fn stored_in(alloc: Global, layouts: &[Layout]) -> Result<Vec<Stored>, AllocError> {
+    let mut stored = Vec::new(alloc);
+    for layout in layouts {
+        layout.push_stored(&mut stored)?;
+    }
+    stored.sort_unstable_by_key(|stored: &Stored| stored.count);
+    Ok(stored)
+}
+
+/// Publishes the items of `text`, with the bytes of those that are `stored`. Returns the number of items, and the number of bytes after the
+/// last line.
 fn publish<D: Disk, A: Accepts>(
     alloc: Global,
     settings: &Settings,
     text: &[u8],
     stored: &[Stored],
-    disk: &mut D,
+    disk: &D,
     channel: &mut A,
-) -> Result<(Layout, u64, usize), RestoreFault>
-    ensures published { IfOk result (λ r. IsPublished (items_from settings.now 1 (lines_in text.now)) (A.accepted channel.old) (A.accepted channel.new) r.1) }
+) -> Result<(u64, usize), RestoreFault>
+    ensures published { IfOk result (λ r. IsPublished (items_from settings.now 1 (lines_in text.now)) (A.accepted channel.old) (A.accepted channel.new) r.0) }
 {
-    let mut layout = Layout::new(alloc, settings)?;
     let mut lines = Lines::of(text);
     let mut next = 0;
     while let Some((count, line)) = lines.next() {
@@ -85,10 +117,9 @@ fn publish<D: Disk, A: Accepts>(
             next = next.saturating_add(1);
         }
         let item = read_item(alloc, settings, count, line, place, disk)?;
-        follow(&mut layout, count, &item)?;
         accept(channel, count, item)?;
     }
-    Ok((layout, lines.count(), lines.rest_len()))
+    Ok((lines.count(), lines.rest_len()))
 }
 
 /// Returns where the bytes of the item of the number `count` are, if these are `stored`.
@@ -106,7 +137,7 @@ fn read_item<D: Disk>(
     count: u64,
     line: &[u8],
     place: Option<Place>,
-    disk: &mut D,
+    disk: &D,
 ) -> Result<Item, RestoreFault>
     requires few { count < 2 ^ 63 }
     ensures spelled { IfOk result (IsSpelledBy settings.now count line.now) }
@@ -124,7 +155,7 @@ fn with_bytes<D: Disk>(
     count: u64,
     item: Item,
     place: Place,
-    disk: &mut D,
+    disk: &D,
 ) -> Result<Item, RestoreFault>
     requires few { count < 2 ^ 63 }
     ensures same { IfOk result (λ filled. blank filled ≡ blank item) }
@@ -133,23 +164,13 @@ fn with_bytes<D: Disk>(
         return Err(bad(count));
     }
     let mut bytes = vec![in alloc; 0; place.length as usize]?;
-    if !disk.read(place, &mut bytes) {
+    if !disk.read(item.rendition(), place, &mut bytes) {
         return Err(bad(count));
     }
     match Payload::of_bytes(&bytes) {
         Some(payload) => Ok(filled(item, Media::new(alloc, &payload)?)),
         None => Err(bad(count)),
     }
-}
-
-/// Adds `item`, the channel's item of the number `count`, to `layout`.
-fn follow(layout: &mut Layout, count: u64, item: &Item) -> Result<(), RestoreFault>
-    requires few { count < 2 ^ 63 }
-{
-    if layout.turns_for(item) {
-        layout.turn();
-    }
-    added(count, layout.add(count, item))
 }
 
 /// Returns the fault of the line of the item of the number `count`, if that couldn't be added.
@@ -159,7 +180,7 @@ fn added(count: u64, outcome: Result<(), AddFault>) -> Result<(), RestoreFault>
     match outcome {
         Ok(()) => Ok(()),
         Err(AddFault::Memory) => Err(RestoreFault::Memory),
-        Err(AddFault::Refused) => Err(bad(count)),
+        Err(AddFault::Refused | AddFault::TooLarge) => Err(bad(count)),
     }
 }
 

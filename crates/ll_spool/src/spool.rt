@@ -1,16 +1,20 @@
 //! A channel's spool while it is written.
-ghost use Rattle.std.specs.Prelude.{◌≡◌, IsErr, OnOk, is_err, true};
+ghost use Rattle.std.specs.Prelude.{◌≡◌, IfOk, IsErr, List, OnOk, is_err, true, ℕ};
 ghost use Rattle.std.specs.Io.KnownBytes.{Appends};
+ghost use Rattle.ll_item.specs.Items.{media_of as bytes_of};
+ghost use Rattle.ll_spool.specs.Files.{AreHeld};
 ghost use Rattle.ll_spool.specs.Spooled.{spooled_line};
 
+use crate::bytes::keep_bytes;
 use crate::disk::Disk;
 use crate::fault::NotKept;
 use crate::line::push_line;
 use ll_entry::settings_text;
-use ll_item::{Item, Media};
-use ll_layout::{Layout, Section, Side, Track, media_of};
+use ll_item::Item;
+use ll_layout::{Layout, Side};
 use ll_settings::Settings;
 use std::alloc::Global;
+use std::marker::Model;
 
 /// A channel's spool while it is written. After the first item that isn't kept it keeps none, so that what it has is a prefix of what the
 /// channel has accepted.
@@ -19,27 +23,46 @@ pub struct Spool<D> {
     alloc: Global,
     settings: Settings,
     disk: D,
-    layout: Layout,
+    /// Where the bytes of each rendition are.
+    layouts: Vec<Layout>,
     /// The number of bytes of the text at the start: that of its whole lines.
     whole: u64,
     /// Whether an item wasn't kept.
     failed: bool,
 }
 
+/// A token: the channel's item of this number was kept. Only [`Spool::keep`] makes one.
+#[derive(Drop)]
+pub struct Kept {
+    count: u64,
+}
+
+impl Model for Kept {
+    ghost use Rattle.std.specs.Prelude.{ℕ};
+
+    ghost Value = { ℕ };
+
+    ghost view = { λ k. k.count };
+}
+
 impl<D: Disk> Spool<D> {
-    /// Returns the spool of a channel of `settings`, whose items so far have led to `layout`, and whose whole lines have `whole` bytes.
+    /// Returns the spool of a channel of `settings`, whose items so far have led to `layouts`, and whose whole lines have `whole` bytes.
     pub(crate) fn new(
         alloc: Global,
         settings: Settings,
         disk: D,
-        layout: Layout,
+        layouts: Vec<Layout>,
         whole: u64,
-    ) -> Spool<D> {
+    ) -> Spool<D>
+        ensures disk { result.disk ≡ disk }
+        ensures layouts { result.layouts ≡ layouts }
+        ensures settings { result.settings ≡ settings }
+    {
         Spool {
             alloc,
             settings,
             disk,
-            layout,
+            layouts,
             whole,
             failed: false,
         }
@@ -48,8 +71,8 @@ impl<D: Disk> Spool<D> {
     /// Makes the files ready for the next item: cuts off what a stop has left of an item whose line isn't whole, and writes the settings
     /// line if there is none.
     pub fn begin(&mut self) -> Result<(), NotKept> {
-        let (a, b) = (self.layout.size(Side::A), self.layout.size(Side::B));
-        self.disk.cut(self.whole, a, b)?;
+        self.disk.cut_text(self.whole)?;
+        cut_sides(&mut self.disk, &self.layouts)?;
         if self.whole == 0 {
             let mut line = settings_text(self.alloc, &self.settings)?;
             line.push('\n')?;
@@ -64,8 +87,11 @@ impl<D: Disk> Spool<D> {
     }
 
     /// Keeps `item`, which the channel has accepted as its item of the number `count`: first its bytes, then its line.
-    pub fn keep(&mut self, count: u64, item: &Item) -> Result<(), NotKept>
+    pub fn keep(&mut self, count: u64, item: &Item) -> Result<Kept, NotKept>
         ensures kept { OnOk result (Appends (D.lines self.old.disk) (D.lines self.new.disk) (spooled_line self.old.settings count item.now)) }
+        ensures held { (of : ℕ → List ℕ) → AreHeld of self.old.layouts.items (D.files self.old.disk) → of count ≡ bytes_of item.now
+            → OnOk result (AreHeld of self.new.layouts.items (D.files self.new.disk)) }
+        ensures token { IfOk result (λ kept. kept ≡ count) }
         ensures settings { self.new.settings ≡ self.old.settings }
         ensures ended { self.old.failed ≡ true → IsErr result }
         ensures fails { self.new.failed ≡ is_err result }
@@ -79,76 +105,45 @@ impl<D: Disk> Spool<D> {
     }
 
     /// Writes the bytes of `item`, the channel's item of the number `count`, and then its line.
-    fn write(&mut self, count: u64, item: &Item) -> Result<(), NotKept>
+    fn write(&mut self, count: u64, item: &Item) -> Result<Kept, NotKept>
         ensures kept { OnOk result (Appends (D.lines self.old.disk) (D.lines self.new.disk) (spooled_line self.old.settings count item.now)) }
+        ensures held { (of : ℕ → List ℕ) → AreHeld of self.old.layouts.items (D.files self.old.disk) → of count ≡ bytes_of item.now
+            → OnOk result (AreHeld of self.new.layouts.items (D.files self.new.disk)) }
+        ensures token { IfOk result (λ kept. kept ≡ count) }
         ensures settings { self.new.settings ≡ self.old.settings }
     {
-        self.write_bytes(item)?;
-        if self.layout.add(count, item).is_err() {
-            return Err(NotKept);
-        }
+        keep_at(self.alloc, &mut self.disk, &mut self.layouts, count, item)?;
         let mut line = String::new(self.alloc);
         push_line(&self.settings, count, item, &mut line)?;
         self.disk.append_line(line.as_bytes())?;
-        Ok(())
-    }
-
-    /// Writes the bytes of `item`, if it has some.
-    fn write_bytes(&mut self, item: &Item) -> Result<(), NotKept>
-        ensures text { D.lines self.new.disk ≡ D.lines self.old.disk }
-        ensures settings { self.new.settings ≡ self.old.settings }
-    {
-        let Some(media) = media_of(item) else {
-            return Ok(());
-        };
-        if self.layout.turns_for(item) {
-            self.turn()?;
-        }
-        append(&mut self.disk, self.layout.side(), media)
-    }
-
-    /// Empties the other side, writes the sections to it, and makes it the current one.
-    fn turn(&mut self) -> Result<(), NotKept>
-        ensures text { D.lines self.new.disk ≡ D.lines self.old.disk }
-        ensures settings { self.new.settings ≡ self.old.settings }
-    {
-        let side = self.layout.side().other();
-        self.disk.clear(side)?;
-        append_tracks(&mut self.disk, side, self.layout.tracks())?;
-        self.layout.turn();
-        Ok(())
+        Ok(Kept { count })
     }
 }
 
-/// Appends the bytes of the sections of `tracks` to the file of `side`.
-fn append_tracks<D: Disk>(disk: &mut D, side: Side, tracks: &[Track]) -> Result<(), NotKept>
+/// Writes the bytes of `item`, the channel's item of the number `count`, to the files of its rendition.
+fn keep_at<D: Disk>(
+    alloc: Global,
+    disk: &mut D,
+    layouts: &mut Vec<Layout>,
+    count: u64,
+    item: &Item,
+) -> Result<(), NotKept>
     ensures text { D.lines disk.new ≡ D.lines disk.old }
+    ensures held { (of : ℕ → List ℕ) → AreHeld of layouts.old.items (D.files disk.old) → of count ≡ bytes_of item.now
+        → OnOk result (AreHeld of layouts.new.items (D.files disk.new)) }
 {
-    for track in tracks {
-        append_sections(disk, side, &track.sections)?;
-    }
-    Ok(())
-}
-
-/// Appends the bytes of `sections` to the file of `side`.
-fn append_sections<D: Disk>(disk: &mut D, side: Side, sections: &[Section]) -> Result<(), NotKept>
-    ensures text { D.lines disk.new ≡ D.lines disk.old }
-{
-    for section in sections {
-        append(disk, side, &section.media)?;
-    }
-    Ok(())
-}
-
-/// Appends `media` to the file of `side`. Fails if only the number of its bytes is known.
-fn append<D: Disk>(disk: &mut D, side: Side, media: &Media) -> Result<(), NotKept>
-    ensures text { D.lines disk.new ≡ D.lines disk.old }
-{
-    match media.bytes() {
-        Some(bytes) => {
-            disk.append(side, bytes)?;
-            Ok(())
-        }
+    let rendition = item.rendition();
+    match layouts.get_mut(rendition) {
+        Some(layout) => keep_bytes(alloc, disk, layout, rendition, count, item),
         None => Err(NotKept),
     }
+}
+
+/// Cuts the files of each rendition to the bytes that `layouts` needs.
+fn cut_sides<D: Disk>(disk: &mut D, layouts: &[Layout]) -> Result<(), NotKept> {
+    for (rendition, layout) in layouts.iter().enumerate() {
+        disk.cut(rendition, Side::A, layout.size(Side::A))?;
+        disk.cut(rendition, Side::B, layout.size(Side::B))?;
+    }
+    Ok(())
 }

@@ -1,0 +1,51 @@
+-- The files of all renditions of a channel.
+use Rattle.std.specs.Prelude.{◌≡◌, ◌≢◌, ◌⊎◌, ◌+◌, ⊤, ℕ, List, [], ◌∷◌, Option, Some, None}
+use Rattle.ll_layout.specs.Held.{Holds, IsAt, IsHeld, LayoutValue, other}
+use Rattle.ll_layout.specs.declared.side.Side.{Side}
+use Rattle.ll_layout.specs.declared.stored.Place.{Place}
+use Rattle.ll_layout.specs.declared.stored.Stored.{Stored}
+
+-- the bytes of each side of each rendition
+abbrev pub Files : Type 0
+Files = ℕ → Side → List ℕ
+
+-- all files but that of one side of one rendition are what they were
+abbrev pub AreOthersSame : ℕ → Side → Files → Files → Type 0
+AreOthersSame rendition side old new = (r : ℕ) (s : Side) → (r ≢ rendition) ⊎ (s ≢ side) → new r s ≡ old r s
+
+-- one file was changed, and no other; of files that aren't known nothing is
+abbrev pub IsChanged : ℕ → Side → (List ℕ → List ℕ) → Option Files → Option Files → Type 0
+IsChanged rendition side change None new = new ≡ None
+IsChanged rendition side change (Some old) None = ⊥
+IsChanged rendition side change (Some old) (Some new) = (new rendition side ≡ change (old rendition side)) × AreOthersSame rendition side old new
+
+-- a file has these bytes at this place; of files that aren't known nothing is said
+abbrev pub IsReadAt : Option Files → ℕ → Place → List ℕ → Type 0
+IsReadAt None rendition place bytes = ⊤
+IsReadAt (Some files) rendition place bytes = IsAt (files rendition place.side) place.offset bytes
+
+-- the files of all renditions from `r` on hold what is kept of them
+abbrev pub HoldsFrom : ℕ → Files → (ℕ → List ℕ) → List LayoutValue → Type 0
+HoldsFrom r files of [] = ⊤
+HoldsFrom r files of (l ∷ more) = Holds (files r) of l × HoldsFrom (r + 1) files of more
+
+-- files that are known hold all bytes that may still be asked for, those that `of` gives for the numbers of the items
+abbrev pub AreHeld : (ℕ → List ℕ) → List LayoutValue → Option Files → Type 0
+AreHeld of layouts None = ⊤
+AreHeld of layouts (Some files) = HoldsFrom 0 files of layouts
+
+-- the same of one rendition
+abbrev pub IsHeldIn : ℕ → (ℕ → List ℕ) → LayoutValue → Option Files → Type 0
+IsHeldIn rendition of l None = ⊤
+IsHeldIn rendition of l (Some files) = Holds (files rendition) of l
+
+-- the files of all other renditions are what they were
+abbrev pub AreRestSame : ℕ → Option Files → Option Files → Type 0
+AreRestSame rendition None new = new ≡ None
+AreRestSame rendition (Some old) None = ⊥
+AreRestSame rendition (Some old) (Some new) = (r : ℕ) → r ≢ rendition → (s : Side) → new r s ≡ old r s
+
+-- the files have an item's bytes on the other side than `side`
+abbrev pub IsSourceOf : ℕ → Side → (ℕ → List ℕ) → Stored → Option Files → Type 0
+IsSourceOf rendition side of s None = ⊤
+IsSourceOf rendition side of s (Some files) = IsHeld (files rendition) of s × (s.place.side ≡ other side)
