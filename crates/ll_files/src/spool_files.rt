@@ -3,6 +3,7 @@ ghost use Rattle.std.specs.Prelude.{None};
 
 use ll_attr::Text;
 use ll_layout::{Place, Side};
+use ll_settings::Settings;
 use ll_spool::{Disk, Lost};
 use std::alloc::{AllocError, Global};
 use std::fmt::Display;
@@ -11,17 +12,24 @@ use std::io::{Error, ErrorKind, Read, Write};
 use std::os::unix::fs::FileExt;
 use std::rt::Files;
 
-/// The files of a channel's spool, which lie in the folder of the channel's name: `items`, the text of its items; `a` and `b`, their bytes.
-/// All are opened at the start and stay open, so that none fails later because players have taken all descriptors. No other server opens
-/// them meanwhile.
+/// The two files of the bytes of a rendition's items.
+#[derive(Drop)]
+struct Sides {
+    a: File,
+    b: File,
+}
+
+/// The files of a channel's spool, which lie in the folder of the channel's name: `items`, the text of its items, and for each rendition
+/// `RENDITION.a` and `RENDITION.b`, the bytes of its items. All are opened at the start and stay open, so that none fails later because
+/// players have taken all descriptors. No other server opens them meanwhile.
 #[derive(Drop)]
 pub struct SpoolFiles<'a, R> {
     rt: &'a R,
     /// The channel's name in messages to standard error.
     what: Text,
     items: File,
-    a: File,
-    b: File,
+    /// The files of each rendition, in their order.
+    sides: Vec<Sides>,
 }
 
 /// The files of a spool can't be used; why was said on standard error.
@@ -29,52 +37,74 @@ pub struct SpoolFiles<'a, R> {
 pub struct Unusable;
 
 impl<'a, R: Files<File = File> + Eprint> SpoolFiles<'a, R> {
-    /// Opens the files of the spool of `channel` in `directory`, or creates them. If that fails, or another server has them, says so on
-    /// standard error.
+    /// Opens the files of the spool of the channel of `settings` in `directory`, or creates them. If that fails, or another server has
+    /// them, says so on standard error.
     pub fn open(
         rt: &'a R,
         alloc: Global,
         directory: &Text,
-        channel: &str,
+        settings: &Settings,
     ) -> Result<Result<SpoolFiles<'a, R>, Unusable>, AllocError> {
-        let what = Text::from_str(alloc, channel)?;
-        let folder = format!(in alloc; "{directory}/{channel}")?;
-        let (items, a, b) = (
-            format!(in alloc; "{folder}/items")?,
-            format!(in alloc; "{folder}/a")?,
-            format!(in alloc; "{folder}/b")?,
-        );
-        match open_all(rt, folder, items, a, b) {
-            Ok((items, a, b)) => match items.try_lock() {
-                Ok(()) => Ok(Ok(SpoolFiles {
-                    rt,
-                    what,
-                    items,
-                    a,
-                    b,
-                })),
-                Err(TryLockError::WouldBlock) => Ok(Err(say(rt, &what, &"in use"))),
-                Err(TryLockError::Error(error)) => Ok(Err(say(rt, &what, &error))),
-            },
-            Err(error) => Ok(Err(say(rt, &what, &error))),
+        let what = Text::from_str(alloc, settings.channel())?;
+        let folder = format!(in alloc; "{directory}/{what}")?;
+        let path = format!(in alloc; "{folder}/items")?;
+        let items = match open_items(rt, folder, path) {
+            Ok(items) => items,
+            Err(error) => return Ok(Err(say(rt, &what, &error))),
+        };
+        match items.try_lock() {
+            Ok(()) => {}
+            Err(TryLockError::WouldBlock) => return Ok(Err(say(rt, &what, &"in use"))),
+            Err(TryLockError::Error(error)) => return Ok(Err(say(rt, &what, &error))),
         }
+        Ok(match open_all(rt, alloc, directory, settings)? {
+            Ok(sides) => Ok(SpoolFiles {
+                rt,
+                what,
+                items,
+                sides,
+            }),
+            Err(error) => Err(say(rt, &what, &error)),
+        })
     }
 }
 
-/// Creates `folder`, if it isn't there, and opens the three files.
-fn open_all<R: Files<File = File>>(
-    rt: &R,
-    folder: String,
-    items: String,
-    a: String,
-    b: String,
-) -> Result<(File, File, File), Error> {
+/// Creates `folder`, if it isn't there, and opens the file `items` in it.
+fn open_items<R: Files<File = File>>(rt: &R, folder: String, items: String) -> Result<File, Error> {
     match fs::create_dir(rt, folder) {
         Ok(()) => {}
         Err(error) if error.kind() == ErrorKind::AlreadyExists => {}
         Err(error) => return Err(error),
     }
-    Ok((open(rt, items)?, open(rt, a)?, open(rt, b)?))
+    open(rt, items)
+}
+
+/// Opens the files of each rendition of the channel of `settings`, whose folder is in `directory`.
+fn open_all<R: Files<File = File>>(
+    rt: &R,
+    alloc: Global,
+    directory: &Text,
+    settings: &Settings,
+) -> Result<Result<Vec<Sides>, Error>, AllocError> {
+    let channel = settings.channel();
+    let mut sides = Vec::new(alloc);
+    for name in settings.renditions() {
+        let a = format!(in alloc; "{directory}/{channel}/{name}.a")?;
+        let b = format!(in alloc; "{directory}/{channel}/{name}.b")?;
+        match open_sides(rt, a, b) {
+            Ok(both) => sides.push(both)?,
+            Err(error) => return Ok(Err(error)),
+        }
+    }
+    Ok(Ok(sides))
+}
+
+/// Opens the two files of a rendition.
+fn open_sides<R: Files<File = File>>(rt: &R, a: String, b: String) -> Result<Sides, Error> {
+    Ok(Sides {
+        a: open(rt, a)?,
+        b: open(rt, b)?,
+    })
 }
 
 /// Opens the file `path`, or creates it, to be read and appended to.
@@ -93,12 +123,13 @@ fn say<R: Eprint, E: Display>(rt: &R, what: &Text, why: &E) -> Unusable {
 }
 
 impl<R> SpoolFiles<'_, R> {
-    /// Returns the file of `side`.
-    fn file(&self, side: Side) -> &File {
-        match side {
-            Side::A => &self.a,
-            Side::B => &self.b,
-        }
+    /// Returns the file of `side` of `rendition`.
+    fn file(&self, rendition: usize, side: Side) -> Result<&File, Lost> {
+        let sides = self.sides.get(rendition).ok_or(Lost)?;
+        Ok(match side {
+            Side::A => &sides.a,
+            Side::B => &sides.b,
+        })
     }
 }
 
@@ -144,27 +175,32 @@ impl<R: Eprint> SpoolFiles<'_, R> {
 impl<R: Eprint> Disk for SpoolFiles<'_, R> {
     ghost lines = { λ _. None };
 
+    ghost files = { λ _. None };
+
     fn append_line(&mut self, text: &[u8]) -> Result<(), Lost> {
         self.append_to(&self.items, text)
     }
 
-    fn append(&mut self, side: Side, bytes: &[u8]) -> Result<(), Lost> {
-        self.append_to(self.file(side), bytes)
+    fn append(&mut self, rendition: usize, side: Side, bytes: &[u8]) -> Result<(), Lost> {
+        self.append_to(self.file(rendition, side)?, bytes)
     }
 
-    fn clear(&mut self, side: Side) -> Result<(), Lost> {
-        self.cut_to(self.file(side), 0)
+    fn clear(&mut self, rendition: usize, side: Side) -> Result<(), Lost> {
+        self.cut_to(self.file(rendition, side)?, 0)
     }
 
-    fn cut(&mut self, text: u64, a: u64, b: u64) -> Result<(), Lost> {
-        self.cut_to(&self.items, text)?;
-        self.cut_to(&self.a, a)?;
-        self.cut_to(&self.b, b)
+    fn cut_text(&mut self, length: u64) -> Result<(), Lost> {
+        self.cut_to(&self.items, length)
     }
 
-    fn read(&mut self, place: Place, bytes: &mut [u8]) -> bool {
-        self.file(place.side)
-            .read_exact_at(bytes, place.offset)
-            .is_ok()
+    fn cut(&mut self, rendition: usize, side: Side, length: u64) -> Result<(), Lost> {
+        self.cut_to(self.file(rendition, side)?, length)
+    }
+
+    fn read(&self, rendition: usize, place: Place, bytes: &mut [u8]) -> bool {
+        match self.file(rendition, place.side) {
+            Ok(file) => file.read_exact_at(bytes, place.offset).is_ok(),
+            Err(Lost) => false,
+        }
     }
 }

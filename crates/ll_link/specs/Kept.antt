@@ -1,5 +1,7 @@
 -- Accepted items are kept before they are answered.
 use Rattle.std.specs.Prelude.{◌≡◌, ◌⊎◌, ⊤, ℕ, Option, Some, Result, Ok, Err}
+use Rattle.ll_link.specs.declared.keeping.Token.{Token}
+use Rattle.ll_link.specs.declared.keeping.Token.TheVariants as token
 use Rattle.ll_publish.specs.declared.refusal.Refusal.{Refusal}
 use Rattle.ll_publish.specs.declared.success.Success.{Success}
 use Rattle.ll_publish.specs.declared.success.Success.TheVariants.{Accepted, NotKept, Standing}
@@ -10,9 +12,14 @@ abbrev pub IsSettled : Result (StampedValue ℕ) Refusal → Result Success Refu
 IsSettled (Ok mark) reply = (reply ≡ Ok (Accepted mark.value)) ⊎ (reply ≡ Ok (NotKept mark.value))
 IsSettled (Err reason) reply = reply ≡ Err reason
 
--- if the answer accepts an item, the token is that of the item's number
-abbrev pub HasToken : Result Success Refusal → Option ℕ → Type 0
-HasToken (Ok (Accepted count)) token = token ≡ Some count
-HasToken (Ok (NotKept count)) token = ⊤
-HasToken (Ok (Standing s)) token = ⊤
-HasToken (Err reason) token = ⊤
+abbrev pub IsTokenOf : ℕ → Option Token → Type 0
+IsTokenOf count None = ⊥
+IsTokenOf count (Some (token.Kept number)) = number ≡ count
+IsTokenOf count (Some (token.NoSpool seen)) = ⊤
+
+-- if the answer accepts an item, there is a token: the item of this number was kept, or its channel has no spool
+abbrev pub HasToken : Result Success Refusal → Option Token → Type 0
+HasToken (Ok (Accepted count)) t = IsTokenOf count t
+HasToken (Ok (NotKept count)) t = ⊤
+HasToken (Ok (Standing s)) t = ⊤
+HasToken (Err reason) t = ⊤

@@ -19,7 +19,7 @@ ghost use Rattle.ll_link.specs.Reads.{IsReadThrough, IsReadWithin};
 ghost use Rattle.ll_link.specs.Serving.{IsBroken, IsDrained, IsServing};
 
 use crate::fault::LinkFault;
-use crate::keeping::{Kept, Published, Told, settle, settle_in};
+use crate::keeping::{Published, Token, Told, settle, settle_in};
 use crate::service::{HandedOut, Service};
 use ll_counts::Gate;
 use ll_device::{Link, write_all};
@@ -98,7 +98,7 @@ fn tell<L: Ledgers, P: Link, C, G, K, D, B, R>(
     service: &Service<'_, L, C, G, K, D, B, R>,
     link: &mut P,
     reply: &Told,
-    kept: Option<Kept>,
+    kept: Option<Token>,
 ) -> Result<(), LinkFault>
     requires kept { HasToken reply.now kept }
     ensures faults { IsTrue result (P.failures link.old) (P.failures link.new) }
@@ -119,7 +119,7 @@ fn publish<L: Ledgers, C, G: Gate, K: Sink, D: Disk, B: Bell, R: Wait>(
     service: &Service<'_, L, C, G, K, D, B, R>,
     pass: &mut Pass<L>,
     line: Line<'_>,
-) -> Result<(Told, Option<Kept>), LinkFault>
+) -> Result<(Told, Option<Token>), LinkFault>
     ensures own { IsOwn result }
     ensures right { IfOk result (λ told. IsReplyTo service.now.hub.now pass.old (meant line.entry) told.0) }
     ensures passed { IfOk result (λ told. pass.new ≡ heard service.now.hub.now (meant line.entry) told.0 pass.old) }
@@ -168,7 +168,7 @@ fn publish_bytes<L: Ledgers, C, G: Gate, K: Sink, D: Disk, B: Bell, R: Wait>(
     name: &str,
     text: &str,
     bytes: &[u8],
-) -> Result<(Told, Option<Kept>), LinkFault>
+) -> Result<(Told, Option<Token>), LinkFault>
     ensures own { IsOwn result }
     ensures right { IfOk result (λ told. IsReplyTo service.now.hub.now pass.old (says.Item name.now text.now bytes.now) told.0) }
     ensures passed { IfOk result (λ told. pass.new ≡ heard_in (channel_of_name service.now.hub.now 0 name.now) told.0 pass.old) }
@@ -190,7 +190,7 @@ fn publish_and_keep<L: Ledgers, C, G: Gate, K: Sink, D: Disk, B: Bell, R: Wait>(
     name: &str,
     text: &str,
     payload: &Payload<'_>,
-) -> Result<(Told, Option<Kept>), LinkFault>
+) -> Result<(Told, Option<Token>), LinkFault>
     requires small { nat_le (length payload.now) media_limit ≡ true }
     ensures own { IsOwn result }
     ensures right { IfOk result (λ told. IsReplyTo service.now.hub.now pass.old (says.Item name.now text.now payload.now) told.0) }
@@ -201,8 +201,8 @@ fn publish_and_keep<L: Ledgers, C, G: Gate, K: Sink, D: Disk, B: Bell, R: Wait>(
     let turn = service.turn(name);
     let answer = publish_item(service, pass, name, text, payload)?;
     match turn {
-        Some(mut spool) => Ok(settle_in(&mut *spool, answer)),
-        None => Ok(settle(answer)),
+        Ok(mut spool) => Ok(settle_in(&mut *spool, answer)),
+        Err(token) => Ok(settle(token, answer)),
     }
 }
 

@@ -45,6 +45,12 @@ impl Model for HandedOut {
     ghost view = { λ h. h.channel };
 }
 
+/// A token: a channel has no spool. Only [`Service::turn`] makes one.
+#[derive(Clone, Copy)]
+pub(crate) struct NoSpool {
+    seen: (),
+}
+
 impl<L: Ledgers, C, G: Gate, K: Sink, D, B, R: Wait> Service<'_, L, C, G, K, D, B, R> {
     /// Hands the full record of the channel at place `channel` to the sink.
     pub(crate) fn hand_out(&self, channel: usize) -> Result<HandedOut, LinkFault>
@@ -61,11 +67,11 @@ impl<L: Ledgers, C, G: Gate, K: Sink, D, B, R: Wait> Service<'_, L, C, G, K, D, 
 }
 
 impl<L: Ledgers, C, G, K, D, B, R: Wait> Service<'_, L, C, G, K, D, B, R> {
-    /// Takes the turn to publish in the channel named `name`, if it has a spool. Who has the turn takes the channel's lock after it, so
-    /// items are kept in the order in which they are accepted; players never take it.
-    pub(crate) fn turn(&self, name: &str) -> Option<MutexGuard<'_, Spool<D>>> {
-        let (channel, _) = self.hub.find(name)?;
-        let spool = self.spools.get(channel)?;
-        Some(spool.lock(self.rt))
+    /// Takes the turn to publish in the channel named `name`; fails if it has no spool. Who has the turn takes the channel's lock after it,
+    /// so items are kept in the order in which they are accepted; players never take it.
+    pub(crate) fn turn(&self, name: &str) -> Result<MutexGuard<'_, Spool<D>>, NoSpool> {
+        let (channel, _) = self.hub.find(name).ok_or(NoSpool { seen: () })?;
+        let spool = self.spools.get(channel).ok_or(NoSpool { seen: () })?;
+        Ok(spool.lock(self.rt))
     }
 }

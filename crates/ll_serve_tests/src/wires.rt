@@ -61,23 +61,29 @@ pub(crate) struct NoFiles;
 impl Disk for NoFiles {
     ghost lines = { λ _. None };
 
+    ghost files = { λ _. None };
+
     fn append_line(&mut self, _text: &[u8]) -> Result<(), Lost> {
         Err(Lost)
     }
 
-    fn append(&mut self, _side: Side, _bytes: &[u8]) -> Result<(), Lost> {
+    fn append(&mut self, _rendition: usize, _side: Side, _bytes: &[u8]) -> Result<(), Lost> {
         Err(Lost)
     }
 
-    fn clear(&mut self, _side: Side) -> Result<(), Lost> {
+    fn clear(&mut self, _rendition: usize, _side: Side) -> Result<(), Lost> {
         Err(Lost)
     }
 
-    fn cut(&mut self, _text: u64, _a: u64, _b: u64) -> Result<(), Lost> {
+    fn cut_text(&mut self, _length: u64) -> Result<(), Lost> {
         Err(Lost)
     }
 
-    fn read(&mut self, _place: Place, _bytes: &mut [u8]) -> bool {
+    fn cut(&mut self, _rendition: usize, _side: Side, _length: u64) -> Result<(), Lost> {
+        Err(Lost)
+    }
+
+    fn read(&self, _rendition: usize, _place: Place, _bytes: &mut [u8]) -> bool {
         false
     }
 }

@@ -116,7 +116,7 @@ fn open_spools<'a, R: Files<File = File> + Eprint>(
         return Ok(files);
     };
     for settings in &config.channels {
-        match SpoolFiles::open(rt, alloc, directory, settings.channel()) {
+        match SpoolFiles::open(rt, alloc, directory, settings) {
             Ok(Ok(opened)) => push(&mut files, opened)?,
             Ok(Err(Unusable)) => return Err(Stop::Spool(4)),
             Err(AllocError) => return Err(Stop::Fault(Fault::Memory)),
