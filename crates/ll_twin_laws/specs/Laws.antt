@@ -25,18 +25,18 @@ use Rattle.ll_window.specs.declared.part_position.PartPosition.{PartPosition}
 
 -- the position of the last part of each rendition, if it has one
 abbrev pub lasts : Configuration → List Item → List (Option PartPosition)
-lasts c items = map (λ (k : Rendition). k.window.last) (renditions c items)
+lasts c list = map (λ (k : Rendition). k.window.last) (renditions c list)
 
 -- the same items of a rendition, and the same last part of each rendition: the same texts, of full playlists and of delta updates
 abbrev pub TwinTextLaw : Type 0
-TwinTextLaw = (c : Configuration) (items others : List Item) (rendition : ℕ) (form : Option SkipKind)
-    → own rendition items ≡ own rendition others → lasts c items ≡ lasts c others
-    → text_in form (seen c items rendition) ≡ text_in form (seen c others rendition)
+TwinTextLaw = (c : Configuration) (list other : List Item) (rendition : ℕ) (form : Option SkipKind)
+    → own rendition list ≡ own rendition other → lasts c list ≡ lasts c other
+    → text_in form (seen c list rendition) ≡ text_in form (seen c other rendition)
 
 -- the same items of a rendition: the same media
 abbrev pub TwinMediaLaw : Type 0
-TwinMediaLaw = (c : Configuration) (items others : List Item) (rendition : ℕ) (what : What)
-    → own rendition items ≡ own rendition others → media c (own rendition items) what ≡ media c (own rendition others) what
+TwinMediaLaw = (c : Configuration) (list other : List Item) (rendition : ℕ) (what : What)
+    → own rendition list ≡ own rendition other → media c (own rendition list) what ≡ media c (own rendition other) what
 
 -- ---- other last parts
 
@@ -70,13 +70,13 @@ abbrev pub unreported : List Line → List Line
 unreported lines = filter (λ line. not (is_report line)) lines
 
 -- A text is that of its playlist's lines; and with the same items of the rendition, these are the same but for EXT-X-RENDITION-REPORT lines.
-pub record AreUnreported (c : Configuration) (items others : List Item) (rendition : ℕ) (form : Option SkipKind) : Type 0 where
-  pub text : text_in form (seen c items rendition) ≡ text_of (lines_of (playlist_in form (seen c items rendition)))
-  pub same : unreported (lines_of (playlist_in form (seen c items rendition))) ≡ unreported (lines_of (playlist_in form (seen c others rendition)))
+pub record DifferInReports (c : Configuration) (list other : List Item) (rendition : ℕ) (form : Option SkipKind) : Type 0 where
+  pub text : text_in form (seen c list rendition) ≡ text_of (lines_of (playlist_in form (seen c list rendition)))
+  pub same : unreported (lines_of (playlist_in form (seen c list rendition))) ≡ unreported (lines_of (playlist_in form (seen c other rendition)))
 
 abbrev pub ReportsLaw : Type 0
-ReportsLaw = (c : Configuration) (items others : List Item) (rendition : ℕ) (form : Option SkipKind)
-    → own rendition items ≡ own rendition others → AreUnreported c items others rendition form
+ReportsLaw = (c : Configuration) (list other : List Item) (rendition : ℕ) (form : Option SkipKind)
+    → own rendition list ≡ own rendition other → DifferInReports c list other rendition form
 
 -- ---- the same items, event by event
 
