@@ -1,0 +1,6 @@
+mod ItemLemmas
+mod LeastLemmas
+mod MomentProof
+mod ReplyProof
+mod TextProof
+mod WorkedExample
