@@ -323,9 +323,9 @@ def is_damaged(room):
         was = (path / 'cam' / 'items').read_bytes()
         ends(room, 3, f'llhls: spool: cam {line}\n', f'spool {path}', SETTINGS)
         check((path / 'cam' / 'items').read_bytes() == was, f'wrong {number} was changed')
-    for number, (name, line) in enumerate([('a', 2), ('b', 3)]):
+    for number in 0, 1:
         path = copied(spool, f'bytes.{number}')
-        sizes = {each: os.path.getsize(path / 'cam' / each) for each in 'ab'}
+        sizes = {each: os.path.getsize(path / 'cam' / each) for each in ('hi.a', 'hi.b')}
         os.truncate(path / 'cam' / max(sizes, key=sizes.get), number)
         settings = room.folder / 'bad'
         settings.write_text('\n'.join(['listen 127.0.0.1:0', 'publish 127.0.0.1:0', 'workers 4', f'spool {path}', SETTINGS, '']))
@@ -364,7 +364,50 @@ def disk_is_full(room):
     room.publish('cam part hi 1000000 if', 'ok 4', b'again')
 
 
-TESTS = ((starts_again, signal.SIGKILL), (starts_again, signal.SIGTERM), (stands_again,), (stands_after_any, 1), (stands_after_any, 2), (is_cut,), (is_damaged,), (no_folder,), (disk_is_full,))
+def each_write_fails(room):
+    """A file takes no more bytes than one block, two, and so on, so that each write fails in turn: what was answered ok is there after the next start, and nothing else."""
+    media = [b's' * 700, b'a' * 900, b'b' * 1100, b'c' * 300, b'd' * 2500, b'e' * 10, b'f' * 1500]
+    lines = ['init hi', *['part hi 1000000 if'] * (len(media) - 1)]
+    for blocks in range(1, 8):
+        spool = room.folder / f'kept.{blocks}'
+        spool.mkdir()
+        room.serve(f'spool {spool}', SETTINGS, blocks=blocks)
+        with room.publisher() as publisher:
+            answers = []
+            for line, each in zip(lines, media):
+                publisher.send(b'cam %s %d\n%s\n' % (line.encode(), len(each), each))
+                answers.append(publisher.stream.readline())
+        room.stop_server(signal.SIGKILL)
+        kept = sum(answer.startswith(b'ok ') for answer in answers)
+        check(answers == [b'ok %d\n' % (number + 1) if number < kept else b'no 20 NotKept\n' for number in range(len(media))], f'with {blocks} blocks it answers {answers}')
+        room.serve(f'spool {spool}', SETTINGS)
+        room.publish('cam at hi', f'at {kept} {max(kept - 1, 0)} 0 {max(kept - 1, 0) * 1000000} {max(kept - 1, 0) * 1000}')
+        for number in range(kept):
+            target = f'/cam/hi/s{number - 1}.m4s' if number else '/cam/hi/init0.mp4'
+            check(room.ask(target).endswith(b'\r\n\r\n' + media[number]), f'with {blocks} blocks {target} is lost')
+        room.stop_server(signal.SIGKILL)
+
+
+def takes_two_windows(room):
+    """The bytes of a rendition take the room of some two windows, also if another one has ended, whose last parts stay there."""
+    spool = room.folder / 'kept'
+    spool.mkdir()
+    room.serve(f'spool {spool}', CAM)
+    with room.publisher() as publisher:
+        for number in range(400):
+            lines = b'' if number != 5 else b'cam part lo 250000 if 4\nlast\ncam end lo\n'
+            publisher.send(lines + b'cam part hi 250000 %s 3000\n%s\n' % (b'f' if number % 4 == 3 else b'-', bytes(3000)))
+            for _ in range(1 + lines.count(b'cam')):
+                check(publisher.stream.readline().startswith(b'ok '), 'an item is refused')
+    window = 3000 * 4 * 9
+    size = sum(os.path.getsize(spool / 'cam' / each) for each in ('hi.a', 'hi.b'))
+    check(size < 3 * window, f'{size} bytes are kept of {400 * 3000}, of which {window} are in the window')
+    room.stop_server(signal.SIGKILL)
+    room.serve(f'spool {spool}', CAM)
+    check(room.ask('/cam/lo/s0.m4s').endswith(b'last'), 'the last part of the one that has ended is lost')
+
+
+TESTS = ((starts_again, signal.SIGKILL), (starts_again, signal.SIGTERM), (stands_again,), (stands_after_any, 1), (stands_after_any, 2), (is_cut,), (is_damaged,), (no_folder,), (disk_is_full,), (each_write_fails,), (takes_two_windows,))
 
 
 def main(path, *names):
