@@ -199,7 +199,7 @@ fn begin_another(
 }
 
 /// Returns whether two settings are equal.
-#[tactic(auto, using(ll_item::proofs::SameLemmas::settings_decided))]
+#[tactic(auto, using(ll_settings::proofs::SameLemmas::settings_decided))]
 fn is_same(a: &Settings, b: &Settings) -> bool
     ensures value { result ≡ same_settings a.now b.now }
     ensures equal { Decides result (a.now ≡ b.now) }

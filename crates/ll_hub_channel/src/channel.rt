@@ -347,7 +347,7 @@ fn is_ready(recorder: &Recorder, entry: Entry) -> bool
 }
 
 /// Returns whether two settings are equal.
-#[tactic(auto, using(ll_item::proofs::SameLemmas::settings_decided))]
+#[tactic(auto, using(ll_settings::proofs::SameLemmas::settings_decided))]
 fn is_same(a: &Settings, b: &Settings) -> bool
     ensures { Decides result (a.now ≡ b.now) }
 {
