@@ -1,4 +1,4 @@
 -- Lemmas of the text and the files of a channel's spool.
 pub mod FileLemmas
-mod LineLemmas
+pub mod LineLemmas
 mod RestoreLemmas
