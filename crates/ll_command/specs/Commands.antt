@@ -81,31 +81,36 @@ abbrev pub flagged : List ℕ → List (List ℕ) → Bool × List (List ℕ)
 flagged flag [] = (false, [])
 flagged flag (word ∷ words) = if bytes_eq word flag then (true, words) else (false, word ∷ words)
 
--- `most=` with a number, `ahead=no`, `retry=` with a number and `end`, in this order; each is optional
+-- `most=` with a number, `ahead=no`, `retry=` and `keep=` with a number and `end`, in this order; each is optional
 pub record Options : Type 0 where
   pub most : Option ℕ
   pub hasty : Bool
   pub retry : Option ℕ
+  pub keep : Option ℕ
   pub ends : Bool
 
 -- the options, if no words are left after them
-abbrev pub options_by : Option ℕ → Bool → Option ℕ → Bool × List (List ℕ) → Option Options
-options_by most hasty retry ends = if length ends.1 == 0 then Some (record { most = most; hasty = hasty; retry = retry; ends = ends.0 }) else None
+abbrev pub options_by : Option ℕ → Bool → Option ℕ → Option ℕ → Bool × List (List ℕ) → Option Options
+options_by most hasty retry keep ends =
+    if length ends.1 == 0 then Some (record { most = most; hasty = hasty; retry = retry; keep = keep; ends = ends.0 }) else None
 
 abbrev pub options : List (List ℕ) → Option Options
 options words =
     let most = numbered (codes "most=") words in
     let hasty = flagged (codes "ahead=no") most.1 in
     let retry = numbered (codes "retry=") hasty.1 in
-    options_by most.0 hasty.0 retry.0 (flagged (codes "end") retry.1)
+    let keep = numbered (codes "keep=") retry.1 in
+    options_by most.0 hasty.0 retry.0 keep.0 (flagged (codes "end") keep.1)
 
--- the plan, if the longest segment is no shorter than a part; a lost connection is tried again for 60 seconds by default
+-- the plan, if the longest segment is no shorter than a part; a lost connection is tried again for 60 seconds by default, and 64 MiB wait for
+-- an origin
 abbrev pub plan_by : ℕ → ℕ → ℕ → Options → Option Plan
 plan_by part segment most o =
     if nat_le part most then
     Some (record {
       lengths = record { part = part; segment = segment; most = most; ahead = not o.hasty };
       retry = unwrap_or o.retry 60;
+      keep = unwrap_or o.keep 67108864;
       ends = o.ends;
     })
     else None

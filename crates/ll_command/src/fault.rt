@@ -7,6 +7,7 @@ use ll_apply::ApplyFault;
 use ll_check::ReadFault;
 use ll_push::PushFault;
 use ll_replay::RunFault;
+use std::alloc::AllocError;
 use std::io::ErrorKind;
 use thiserror::Error;
 
@@ -61,6 +62,17 @@ pub enum Fault {
     /// Not all of an encoder's output was published.
     #[error("{0}")]
     Push(PushFault),
+}
+
+impl From<AllocError> for Fault {
+    ghost use Rattle.std.specs.Prelude.{◌≡◌};
+    ghost use Rattle.ll_command.specs.declared.fault.Fault.TheVariants.{Memory};
+
+    ghost from_gives = { λ error fault. fault ≡ Memory };
+
+    fn from(_error: AllocError) -> Fault {
+        Fault::Memory
+    }
 }
 
 impl Fault {

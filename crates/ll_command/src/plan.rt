@@ -9,6 +9,9 @@ use ll_parts::Lengths;
 /// How long a lost connection is tried again by default, in seconds.
 const RETRY: u64 = 60;
 
+/// How many bytes wait for one of several origins at most by default: 64 MiB.
+const KEEP: u64 = 1 << 26;
+
 /// How an encoder's output is published.
 #[derive(Clone, Copy, Debug)]
 pub struct Plan {
@@ -16,13 +19,15 @@ pub struct Plan {
     pub lengths: Lengths,
     /// How long a lost connection is tried again, in seconds.
     pub retry: u64,
+    /// How many bytes wait at most for one of several origins, while another takes more.
+    pub keep: u64,
     /// Whether the rendition is ended after the input's last part.
     pub ends: bool,
 }
 
 impl Plan {
     /// Parses a plan: `part=` and `segment=` with a number of microseconds, and then the options `most=` with such a number, `ahead=no`,
-    /// `retry=` with a number of seconds, and `end`, in this order. Returns `None` for other words, or if `most` is shorter than a part.
+    /// `retry=` with a number of seconds, `keep=` with a number of bytes, and `end`, in this order. Returns `None` for other words, or if `most` is shorter than a part.
     pub(crate) fn of(part: &Text, segment: &Text, words: &[Text]) -> Option<Plan>
         ensures { result ≡ spec.plan part.now segment.now words.now }
     {
@@ -31,6 +36,7 @@ impl Plan {
         let (most, words) = numbered("most=", words);
         let (hasty, words) = flagged("ahead=no", words);
         let (retry, words) = numbered("retry=", words);
+        let (keep, words) = numbered("keep=", words);
         let (ends, words) = flagged("end", words);
         if !words.is_empty() {
             return None;
@@ -45,10 +51,10 @@ impl Plan {
             most,
             ahead: !hasty,
         };
-        let retry = retry.unwrap_or(RETRY);
         Some(Plan {
             lengths,
-            retry,
+            retry: retry.unwrap_or(RETRY),
+            keep: keep.unwrap_or(KEEP),
             ends,
         })
     }

@@ -1,5 +1,6 @@
 mod AnswerLemmas
 mod ConnectionLemmas
+pub mod ExchangeLemmas
 mod HistoryLemmas
 mod LineLemmas
 mod NextLemmas

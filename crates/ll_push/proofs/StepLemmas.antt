@@ -1,20 +1,16 @@
 -- Messages, one after another.
-use Rattle.std.proofs.Common.{◌≡◌, ◌≢◌, OnErr, IfErr, IsErrAnd, IsErrOf, Result, Ok, Err, Bool, true, false, ℕ, ◌+◌, ◌-◌, List, [], ◌∷◌, ◌++◌, Option, Some, None, refl, ap, sym, subst, ◌∙◌, append_assoc, append-nil, fold, length, length-append, nat_le, arith}
-use Rattle.std.proofs.KnownBytes.{Appends-nil, Appends-trans}
+use Rattle.std.proofs.Common.{◌≡◌, Bool, true, false, ℕ, ◌+◌, ◌-◌, List, [], ◌∷◌, ◌++◌, Option, Some, None, refl, ap, sym, subst, ◌∙◌, append_assoc, append-nil, fold, length, length-append, nat_le, arith}
+use Rattle.std.proofs.KnownBytes.{Appends-trans}
 use Rattle.std.proofs.lemmas.Bool.Decides.{nat_tests}
 use Rattle.std.proofs.lemmas.Grind.{flat_map-append}
-use Rattle.std.proofs.lemmas.List.Elements.{All-nil, All-push}
 use Rattle.std.proofs.lemmas.List.Sums.{fold-append}
 use Rattle.std.specs.Io.KnownBytes.{Appends}
 use Rattle.ll_announce.specs.Messages.{MessageValue}
-use Rattle.ll_device.specs.Inward.{looked_at}
 use Rattle.ll_device.specs.Written.{AppendsPrefix}
-use Rattle.ll_device.proofs.InwardLemmas.{looked_at-none, looked_at-on}
 use Rattle.ll_mp4.specs.declared.fault.StreamFault.{StreamFault}
-use Rattle.ll_push.specs.Answers.{accepts, ended, lines_text, refuses}
+use Rattle.ll_push.specs.Answers.{accepts, refuses}
 use Rattle.ll_push.specs.Connecting.{HasFailed, TellsUnasked}
 use Rattle.ll_push.specs.Exchanges.{AreExchanged, IsExchanged, IsLost, IsUnanswered, LinkValue, bytes_of, text_of}
-use Rattle.ll_push.specs.Faults.{IsOfSource}
 use Rattle.ll_push.specs.Next.{IsDelivered, IsFirst, IsNothing, IsSent, IsTaken}
 use Rattle.ll_push.specs.declared.answer.Answer.{Answer}
 use Rattle.ll_push.specs.declared.connection.Sent.{Sent}
@@ -22,9 +18,8 @@ use Rattle.ll_push.specs.declared.connection.Sent.TheVariants.{Answered}
 use Rattle.ll_push.specs.Publishing.{Ahead, GoesOn, HasGone, HasRefused, HasSent, HasSentUpTo, TargetValue, fault_to_come, led_by, messages_to_come}
 use Rattle.ll_push.specs.declared.connection.Delivery.{Delivery}
 use Rattle.ll_push.specs.declared.connection.Delivery.TheVariants as delivery
-use Rattle.ll_push.specs.declared.fault.PushFault.{PushFault}
-use Rattle.ll_push.specs.declared.fault.PushFault.TheVariants.{Input, Read, Clock, Connect, Elsewhere, BadAnswer, Memory, Endless}
 use Rattle.ll_push.specs.declared.publication.Publication.{Publication}
+use Rattle.ll_push.proofs.ExchangeLemmas.{exchanged-more, exchanged-none}
 
 -- a text, and then a prefix of what stands after it
 pub prefix-on : (base mid after : Option (List ℕ)) (a b whole : List ℕ) → whole ≡ a ++ b → Appends base mid a → AppendsPrefix mid after b → AppendsPrefix base after whole
@@ -41,56 +36,6 @@ pub prefix-answered : (before after : LinkValue) (text bytes : List ℕ) (sent :
 prefix-answered before after text bytes sent answer e is said =
     let whole = subst (IsSent before after text) is said in
     subst (AppendsPrefix before.written after.written) e (prefix-whole before.written after.written text whole.1.sent)
-
--- ---- faults
-
-pub same-fault : {X : Type 0} (r : Result X PushFault) (f g : PushFault) → IsErrAnd r (λ y. y ≡ f) → r ≡ Err g → f ≡ g
-same-fault (Ok x) f g h e = absurd h
-same-fault (Err y) f g h e = let k = sym h in cc
-
-pub on-err : {T E : Type 0} (r : Result T E) (P : Type 0) → P → OnErr r P
-on-err (Ok x) P p = tt
-on-err (Err x) P p = p
-
-pub own-fault : {X : Type 0} (r : Result X PushFault) (f g : PushFault) (P : PushFault → Type 0) → IsErrAnd r (λ y. y ≡ f) → IsErrOf r g → P f → P g
-own-fault r f g P h e p = subst P (same-fault r f g h e) p
-
--- ---- messages that were sent
-
--- none was
-exchanged-none : (link : LinkValue) → AreExchanged [] link link
-exchanged-none link = record {
-  sent = Appends-nil link.written;
-  answers = [];
-  one_each = refl;
-  accepted = All-nil _;
-  reads = 0;
-  read = looked_at-none link.inward;
-  steady = refl;
-}
-
-lines-push : (lines : List (List ℕ)) (line : List ℕ) → lines_text (lines ++ line ∷ []) ≡ lines_text lines ++ ended line
-lines-push lines line = flat_map-append ended lines (line ∷ []) ∙ ap (λ l. lines_text lines ++ l) (append-nil (ended line))
-
-text-push : (messages : List MessageValue) (message : MessageValue) → text_of (messages ++ message ∷ []) ≡ text_of messages ++ message.bytes
-text-push messages message = flat_map-append bytes_of messages (message ∷ []) ∙ ap (λ l. text_of messages ++ l) (append-nil message.bytes)
-
--- one more was
-exchanged-more : (messages : List MessageValue) (message : MessageValue) (line : List ℕ) (first mid last : LinkValue) → AreExchanged messages first mid
-    → IsExchanged message.bytes line mid last → accepts line ≡ true → AreExchanged (messages ++ message ∷ []) first last
-exchanged-more messages message line first mid last h one ok = record {
-  sent =
-      subst (Appends first.written last.written) (sym (text-push messages message))
-      (Appends-trans first.written mid.written last.written (text_of messages) message.bytes h.sent one.sent);
-  answers = h.answers ++ line ∷ [];
-  one_each = length-append h.answers (line ∷ []) ∙ ap (λ n. n + 1) h.one_each ∙ sym (length-append messages (message ∷ []));
-  accepted = All-push (λ answer. accepts answer ≡ true) h.answers line h.accepted ok;
-  reads = h.reads + one.reads;
-  read =
-      looked_at-on first.inward mid.inward last.inward h.reads 0 one.reads 0 (lines_text h.answers) (ended line) h.read one.read
-      ∙ ap (λ came. looked_at (h.reads + one.reads) 0 came first.inward) (sym (lines-push h.answers line));
-  steady = one.steady ∙ h.steady;
-}
 
 -- some messages were sent and accepted, and what is still to be sent are those after them
 pub record SoFar (t : TargetValue) (before : Publication) (ahead : Ahead) (first : LinkValue) (after : Publication) (left : Option Ahead) (last : LinkValue) (accepted : Bool) (many : ℕ)

@@ -1,4 +1,4 @@
--- For private contracts: the next message that is to be sent, and the result of sending one.
+-- The next message that is to be sent, and the result of sending one.
 use Rattle.std.specs.Prelude.{◌≡◌, ◌⊎◌, ℕ, List, [], ◌∷◌, ◌++◌, Bool, true, false, Option, Some, None, ⊤}
 use Rattle.std.specs.Io.KnownBytes.{Consumes, IsAtEnd, Keeps}
 use Rattle.ll_announce.specs.Courses.{course_then, first_of, later_readings, spoken}

@@ -26,7 +26,7 @@ enum Sent {
 
 /// The result of sending a message.
 #[derive(Drop)]
-pub(crate) enum Delivery {
+pub enum Delivery {
     /// The origin accepted it.
     Accepted {
         /// Whether the origin says that it couldn't keep it on disk.
@@ -40,7 +40,8 @@ pub(crate) enum Delivery {
 
 /// The result of asking where the rendition stands.
 #[derive(Drop)]
-pub(crate) enum Asked {
+pub enum Asked {
+    /// Where it stands.
     Standing(Standing),
     /// The origin refused it with this line, which is without its end.
     Refused(Text),
@@ -48,12 +49,12 @@ pub(crate) enum Asked {
     Lost,
 }
 
-/// Asks where the rendition stands that `names` names.
-pub(crate) fn ask<P: Link>(
-    alloc: Global,
-    names: &Names<'_>,
-    link: &mut P,
-) -> Result<Asked, PushFault>
+/// Asks on `link` where the rendition stands that `names` names.
+///
+/// # Errors
+///
+/// `BadAnswer` if what came isn't an answer to that; `Memory`.
+pub fn ask<P: Link>(alloc: Global, names: &Names<'_>, link: &mut P) -> Result<Asked, PushFault>
     ensures asked { IfOk result (IsAskedSo (messages.question (named names.now)) (link_value P.written P.inward P.failures link.old) (link_value P.written P.inward P.failures link.new)) }
     ensures own { IfErr result IsOwn }
     ensures unanswered { IsErrOf result PushFault.BadAnswer
@@ -69,8 +70,12 @@ pub(crate) fn ask<P: Link>(
     }
 }
 
-/// Sends `message`, and reads its answer.
-pub(crate) fn deliver<P: Link>(
+/// Sends `message` on `link`, and reads its answer.
+///
+/// # Errors
+///
+/// `BadAnswer` if what came isn't an answer to that; `Memory`.
+pub fn deliver<P: Link>(
     alloc: Global,
     link: &mut P,
     message: &Message,

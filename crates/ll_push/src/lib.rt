@@ -12,8 +12,10 @@ mod target;
 mod watch;
 
 pub use calendar::Calendar;
+pub use connection::{Asked, Delivery, ask, deliver};
 pub use connections::{Ending, push};
 pub use fault::PushFault;
 pub use laws::{answer_law, publication_law};
+pub use publication::Publication;
 pub use target::Target;
 pub use watch::Watch;

@@ -28,7 +28,7 @@ const PIECE: usize = 65_536;
 
 /// The part of an encoder's output that the origin isn't known to have.
 #[derive(Drop)]
-pub(crate) struct Publication {
+pub struct Publication {
     /// The place of the rendition's next part after all that the origin is known to have accepted.
     pub(crate) place: Place,
     /// The course of the rendition after the messages in `kept`.
@@ -56,7 +56,7 @@ pub(crate) enum Step {
 
 impl Publication {
     /// Returns the publication of a stream of which nothing was read yet, in a rendition that stands at `standing`.
-    pub(crate) fn new(alloc: Global, target: &Target<'_>, standing: &Standing) -> Publication
+    pub fn new(alloc: Global, target: &Target<'_>, standing: &Standing) -> Publication
         ensures { result ≡ at_start (targeted target.now) standing.now }
     {
         Publication {
@@ -136,7 +136,12 @@ impl Publication {
 
     /// Takes the next message: the first that is kept; else the first of the encoder's next piece; after the last piece the rendition's end,
     /// if that is to be sent. Returns `None` if none is left.
-    fn message<R: Reader, C: Calendar>(
+    ///
+    /// # Errors
+    ///
+    /// `Input` if the encoder's bytes are refused there; `Read` and `Clock` if `source` or `clock` fails; `Memory`; `Endless` after 2^64 - 1
+    /// reads.
+    pub fn message<R: Reader, C: Calendar>(
         &mut self,
         alloc: Global,
         target: &Target<'_>,

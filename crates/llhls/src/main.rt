@@ -1,5 +1,5 @@
-//! `llhls`, an origin for Low-Latency HLS. `llhls serve SETTINGS` serves publishers and players over TCP; `llhls push ADDRESS CHANNEL
-//! RENDITION part=US segment=US [most=US] [ahead=no] [retry=S] [end]` publishes what an encoder writes; `llhls replay` runs a script;
+//! `llhls`, an origin for Low-Latency HLS. `llhls serve SETTINGS` serves publishers and players over TCP; `llhls push ADDRESS[,ADDRESS ..]
+//! CHANNEL RENDITION part=US segment=US [most=US] [ahead=no] [retry=S] [keep=BYTES] [end]` publishes what an encoder writes; `llhls replay` runs a script;
 //! `llhls check FILE` checks the record of a channel, `llhls upgrade FILE` writes it in format 2, and `llhls explain FILE [ENTRY]`
 //! summarizes it or explains an entry; `llhls multivariant RECORD NAME=INIT ..` writes its Multivariant Playlist; `llhls apply BASE DELTA`
 //! applies a delta update to a playlist; `llhls version` says which version it is.
@@ -8,16 +8,21 @@
 ghost use Rattle.std.specs.Prelude.{◌≡◌, IfErr};
 ghost use Rattle.ll_replay.specs.declared.outcome.RunFault.{RunFault};
 
+mod board;
 mod calendar;
 mod multivariant;
+mod origins;
 mod push;
 mod restoring;
 mod serve;
 mod stop;
+mod survey;
 mod words;
 
+use crate::calendar::SystemCalendar;
 use crate::multivariant::multivariant;
-use crate::push::publish;
+use crate::origins::{Job, publish_at_all};
+use crate::push::{keep_freed_memory, publish};
 use crate::serve::serve;
 use crate::stop::Stop;
 use crate::words::words;
@@ -29,26 +34,43 @@ use ll_command::{
 };
 use ll_device::{CountedReader, CountedWriter};
 use ll_push::Ending as Published;
+use std::alloc::Global;
 use std::fs::File;
+use std::io::IsTerminal;
 use std::marker::Brand;
-use std::net::SocketAddrV4;
+use std::net::{Net, SocketAddrV4, TcpListener, TcpStream};
 use std::process::ExitCode;
+use std::sync::Wait;
 use std::sync::ledger::{Blank, Ledger};
+use std::thread::Threads;
+use std::time::Clock;
 use std::{fs, io};
 
 fn main(rt: HostRuntime) -> ExitCode {
     let done = match called(&rt) {
         Ok(Ending::Done) => Ok(ExitCode::SUCCESS),
         Ok(Ending::BadRecord) => Ok(ExitCode::from(BAD_RECORD)),
-        Ok(Ending::Refused(answer)) => {
-            let _ = eprintln!(rt; "llhls: {answer}");
-            Ok(ExitCode::from(REFUSED))
-        }
+        Ok(Ending::Refused(answer)) => Ok(refused(&rt, &answer)),
         Ok(Ending::Serve(settings)) => match serve(&rt, rt.alloc(), &settings) {
             Ok(()) => Ok(ExitCode::SUCCESS),
             Err(Stop::Fault(fault)) => Err(fault),
             Err(Stop::Spool(status)) => Ok(ExitCode::from(status)),
         },
+        Ok(Ending::Push(job)) => {
+            let input = (rt.stdin(), rt.stderr().is_terminal());
+            match publish_job::<Brand, Brand, HostRuntime>(
+                &rt,
+                rt.alloc(),
+                input,
+                &job,
+                Blank::new(2),
+                Blank::new(2),
+            ) {
+                Ok(Published::Whole) => Ok(ExitCode::SUCCESS),
+                Ok(Published::Refused(answer)) => Ok(refused(&rt, &answer)),
+                Err(fault) => Err(fault),
+            }
+        }
         Err(fault) => Err(fault),
     };
     match done {
@@ -60,11 +82,20 @@ fn main(rt: HostRuntime) -> ExitCode {
     }
 }
 
+/// Says that an origin refused what was published with this `answer`, and returns the exit status.
+fn refused<R: Eprint>(rt: &R, answer: &Text) -> ExitCode {
+    let _ = eprintln!(rt; "llhls: {answer}");
+    ExitCode::from(REFUSED)
+}
+
 /// The exit status if a record isn't right.
 const BAD_RECORD: u8 = 3;
 
 /// The exit status if an origin refuses what is published.
 const REFUSED: u8 = 3;
+
+/// The most origins at which a stream is published.
+const ORIGINS: usize = 4;
 
 /// How a command ended, or what is left of it for `main` to do.
 enum Ending {
@@ -75,6 +106,8 @@ enum Ending {
     Refused(Text),
     /// A server is to run with this settings file: only `main` has the handle that starts threads.
     Serve(Vec<u8>),
+    /// What an encoder writes is to be published at several origins: only `main` has the handle that starts threads.
+    Push(Job),
 }
 
 /// Does what the program was called to do.
@@ -104,13 +137,13 @@ fn called(rt: &HostRuntime) -> Result<Ending, Fault> {
             channel,
             rendition,
             plan,
-        } => {
-            let names = Names {
-                channel: channel.as_str(),
-                rendition: rendition.as_str(),
-            };
-            publish_input(rt, address.as_str(), names, plan)
-        }
+        } => publish_input(
+            rt,
+            address.as_str(),
+            channel.as_str(),
+            rendition.as_str(),
+            plan,
+        ),
     }
 }
 
@@ -167,20 +200,75 @@ fn ending_of(right: bool) -> Ending {
     }
 }
 
-/// Publishes what an encoder writes to standard input. An `address` that can't be parsed is wrong usage.
+/// Publishes what an encoder writes to standard input, or leaves that to `main` if there are several addresses.
 fn publish_input(
     rt: &HostRuntime,
-    address: &str,
-    names: Names<'_>,
+    addresses: &str,
+    channel: &str,
+    rendition: &str,
     plan: Plan,
 ) -> Result<Ending, Fault> {
-    let Ok(address) = address.parse::<SocketAddrV4>() else {
+    let mut addresses = addresses_in(rt.alloc(), addresses)?;
+    if addresses.len() > 1 {
+        return Ok(Ending::Push(Job {
+            addresses,
+            channel: Text::from_str(rt.alloc(), channel)?,
+            rendition: Text::from_str(rt.alloc(), rendition)?,
+            plan,
+        }));
+    }
+    let Some(address) = addresses.pop() else {
         return Err(Fault::Usage);
     };
+    let names = Names { channel, rendition };
     match publish::<Brand, Brand>(rt, address, names, plan, Blank::new(2), Blank::new(2))? {
         Published::Whole => Ok(Ending::Done),
         Published::Refused(answer) => Ok(Ending::Refused(answer)),
     }
+}
+
+/// Parses one or more addresses with commas between them, at most four, none twice. Others are wrong usage.
+fn addresses_in(alloc: Global, text: &str) -> Result<Vec<SocketAddrV4>, Fault> {
+    let mut addresses = Vec::new(alloc);
+    for word in text.split(',') {
+        let Ok(address) = word.parse::<SocketAddrV4>() else {
+            return Err(Fault::Usage);
+        };
+        if addresses.len() == ORIGINS || addresses.contains(&address) {
+            return Err(Fault::Usage);
+        }
+        if addresses.push(address).is_err() {
+            return Err(Fault::Memory);
+        }
+    }
+    Ok(addresses)
+}
+
+/// Publishes what an encoder writes to `input`, its bytes and whether standard error is a terminal, at the origins of `job`. Each blank has
+/// two parts, one for each count.
+fn publish_job<
+    L: Ledger,
+    M: Ledger,
+    R: Net<Listener = TcpListener, Stream = TcpStream> + Eprint + Clock + Threads + Wait + Sync,
+>(
+    rt: &R,
+    alloc: Global,
+    input: (io::Stdin, bool),
+    job: &Job,
+    reads: Blank,
+    times: Blank,
+) -> Result<Published, Fault>
+    requires name { reads.name ≡ L.name }
+    requires parts { reads.parts ≡ L.parts }
+    requires two { reads.parts ≡ 2 }
+    requires times_name { times.name ≡ M.name }
+    requires times_parts { times.parts ≡ M.parts }
+    requires times_two { times.parts ≡ 2 }
+{
+    let mut source: CountedReader<io::Stdin, L> = CountedReader::new(input.0, reads);
+    let mut clock: SystemCalendar<'_, R, M> = SystemCalendar::new(rt, times);
+    keep_freed_memory(alloc);
+    publish_at_all(rt, alloc, job, &mut source, &mut clock, input.1)
 }
 
 /// Runs the script on standard input, and writes its answers to standard output.

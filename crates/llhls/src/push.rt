@@ -14,7 +14,7 @@ use std::time::{Clock, Duration, Instant, SystemTime, UNIX_EPOCH};
 
 /// What was published so far, and when that was last shown.
 #[derive(Drop)]
-struct Meter<'a, R> {
+pub(crate) struct Meter<'a, R> {
     rt: &'a R,
     /// Whether it is shown.
     shown: bool,
@@ -36,7 +36,7 @@ struct Meter<'a, R> {
 
 impl<'a, R: Eprint + Clock> Meter<'a, R> {
     /// Returns a meter of a stream of which nothing was published yet.
-    fn new(rt: &'a R, shown: bool) -> Meter<'a, R> {
+    pub(crate) fn new(rt: &'a R, shown: bool) -> Meter<'a, R> {
         Meter {
             rt,
             shown,
@@ -66,15 +66,23 @@ impl<'a, R: Eprint + Clock> Meter<'a, R> {
         }
     }
 
-    /// Shows what was published, if a second has gone by since that was last shown.
-    fn show(&mut self) {
-        let Some(last) = self.last else { return };
-        let Ok(time) = last.elapsed(self.rt) else {
-            return;
-        };
-        if time < Duration::from_secs(1) {
-            return;
+    /// Counts a message of `bytes` bytes that announces `said`, and shows what was published, if it is shown and a second has gone by since it
+    /// last was. Returns whether it was shown.
+    pub(crate) fn add(&mut self, said: Said, bytes: usize) -> bool {
+        self.bytes = self.bytes.saturating_add(bytes as u64);
+        self.count(said);
+        let Some(last) = self.last else { return false };
+        match last.elapsed(self.rt) {
+            Ok(time) if self.shown && time >= Duration::from_secs(1) => {
+                self.show(time);
+                true
+            }
+            _ => false,
         }
+    }
+
+    /// Shows what was published, and the rate in the `time` since that was last shown.
+    fn show(&mut self, time: Duration) {
         let rate = u128::from(self.bytes) / time.as_millis().max(1);
         let (seconds, millis) = (self.micros / 1_000_000, self.micros / 1_000 % 1_000);
         let delay = self.delay();
@@ -95,7 +103,7 @@ impl<'a, R: Eprint + Clock> Meter<'a, R> {
     }
 
     /// Ends the line that was shown, if there is one, so that what follows has a line of its own.
-    fn end_line(&mut self) {
+    pub(crate) fn end_line(&mut self) {
         if self.after {
             self.after = false;
             let _ = eprintln!(self.rt;);
@@ -127,11 +135,7 @@ impl<R: Eprint + Clock> Watch for Meter<'_, R> {
     }
 
     fn accepted(&mut self, said: Said, bytes: usize) {
-        self.bytes = self.bytes.saturating_add(bytes as u64);
-        self.count(said);
-        if self.shown {
-            self.show();
-        }
+        self.add(said, bytes);
     }
 
     fn lost(&mut self) {
@@ -142,7 +146,7 @@ impl<R: Eprint + Clock> Watch for Meter<'_, R> {
 
 /// Makes the C library keep freed memory for later parts: once it has freed a block of this size, it keeps up to twice as much. Before that it
 /// returns the memory of almost every part to the system, which clears it anew for the next one.
-fn keep_freed_memory(alloc: Global) {
+pub(crate) fn keep_freed_memory(alloc: Global) {
     let _ = Vec::<u8>::with_capacity(alloc, 16_777_216);
 }
 

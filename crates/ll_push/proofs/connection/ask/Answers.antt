@@ -1,7 +1,7 @@
 -- What was sent is a prefix of the question.
 use Rattle.std.proofs.Common.{◌∙◌, subst}
 use Rattle.ll_device.specs.Written.{AppendsPrefix}
-use Rattle.ll_push.proofs.StepLemmas.{on-err}
+use Rattle.ll_push.proofs.ExchangeLemmas.{on-err}
 use Rattle.ll_push.proofs.connection.ask.Goals as goal
 
 pub returns-in_err-standing-clause-cut : goal.returns-in_err-standing-clause-cut

@@ -5,7 +5,7 @@ use Rattle.ll_push.specs.History.{task}
 use Rattle.ll_push.specs.Meaning.{targeted}
 use Rattle.ll_push.specs.declared.fault.PushFault.TheVariants.{Endless}
 use Rattle.ll_push.proofs.HistoryLemmas.{broken-by, ended-by, gave-none, gave-up, lasted, lasted-by, least-by, many-by, then-gone, went-first}
-use Rattle.ll_push.proofs.StepLemmas.{same-fault}
+use Rattle.ll_push.proofs.ExchangeLemmas.{same-fault}
 use Rattle.ll_push.proofs.connections.push.Goals as goal
 
 pub loop-init : goal.loop-init

@@ -7,7 +7,7 @@ use Rattle.ll_push.specs.Next.{IsOwn}
 use Rattle.ll_push.specs.Publishing.{told_ahead}
 use Rattle.ll_push.specs.declared.fault.PushFault.TheVariants.{BadAnswer, Endless}
 use Rattle.ll_push.proofs.ConnectionLemmas.{asked-lost, asked-refused, broken-so, endless-so, moved-away, unasked-so, went-so}
-use Rattle.ll_push.proofs.StepLemmas.{own-fault, same-fault}
+use Rattle.ll_push.proofs.ExchangeLemmas.{own-fault, same-fault}
 use Rattle.ll_push.proofs.connections.Publisher.publish_on.Goals as goal
 
 pub returns-in_err-standing-clause-broke : goal.returns-in_err-standing-clause-broke

@@ -5,7 +5,7 @@ use Rattle.ll_push.specs.Publishing.{told_ahead}
 use Rattle.ll_push.specs.declared.fault.PushFault.TheVariants.{Input}
 use Rattle.ll_push.proofs.NextLemmas.{last-taken, readily-first, readily-none, same-fed, same-nothing, same-same, same-taken}
 use Rattle.ll_push.proofs.PieceLemmas.{not-some}
-use Rattle.ll_push.proofs.StepLemmas.{same-fault}
+use Rattle.ll_push.proofs.ExchangeLemmas.{same-fault}
 use Rattle.ll_push.proofs.publication.Publication.message.Goals as goal
 
 pub returns-in_err-message-clause-refused : goal.returns-in_err-message-clause-refused

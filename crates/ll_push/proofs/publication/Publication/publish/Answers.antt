@@ -7,7 +7,8 @@ use Rattle.ll_push.specs.Meaning.{targeted}
 use Rattle.ll_push.specs.Next.{IsDelivered}
 use Rattle.ll_push.specs.Publishing.{told_ahead}
 use Rattle.ll_push.specs.declared.fault.PushFault.TheVariants.{Input, BadAnswer}
-use Rattle.ll_push.proofs.StepLemmas.{SoFar, all-sent, delivered, goes-first, many-sent, message-cut, message-failed, message-kept, message-none, message-refused, on-err, same-fault, some-sent}
+use Rattle.ll_push.proofs.ExchangeLemmas.{on-err, same-fault}
+use Rattle.ll_push.proofs.StepLemmas.{SoFar, all-sent, delivered, goes-first, many-sent, message-cut, message-failed, message-kept, message-none, message-refused, some-sent}
 use Rattle.ll_push.proofs.publication.Publication.publish.Goals as goal
 
 pub loop-init : goal.loop-init

@@ -1,0 +1,6 @@
+mod FedLemmas
+mod HistoryLemmas
+mod QueueLemmas
+mod ResumeLemmas
+mod SentLemmas
+mod WentLemmas

@@ -1,0 +1,289 @@
+//! Publishes what an encoder writes at several origins, each of which is sent it by a thread of its own.
+use crate::board::{Board, Seen};
+use crate::survey::Survey;
+use ll_announce::{Message, Names, Standing};
+use ll_attr::Text;
+use ll_command::{Fault, Plan};
+use ll_device::{Connector, Reader, Socket, Source};
+use ll_pair::{Ending, Fed, Outlets, Pair, Taker, carry, feed};
+use ll_push::{Asked, Calendar, Ending as Published, PushFault, Target, ask};
+use std::alloc::{AllocError, Global};
+use std::net::{Net, SocketAddrV4, TcpListener, TcpStream};
+use std::sync::{Mutex, Wait};
+use std::thread;
+use std::thread::Threads;
+use std::time::{Clock, Duration, Instant};
+
+/// The pause between two attempts to reach an origin, in milliseconds.
+const PAUSE: u64 = 500;
+
+/// What is published, and where.
+#[derive(Drop)]
+pub(crate) struct Job {
+    /// The addresses at which the origins listen for publishers.
+    pub(crate) addresses: Vec<SocketAddrV4>,
+    /// The name of the channel.
+    pub(crate) channel: Text,
+    /// The name of one of its renditions.
+    pub(crate) rendition: Text,
+    /// How the encoder's output is published.
+    pub(crate) plan: Plan,
+}
+
+impl Job {
+    /// Returns the names of the channel and the rendition.
+    fn names(&self) -> Names<'_> {
+        Names {
+            channel: self.channel.as_str(),
+            rendition: self.rendition.as_str(),
+        }
+    }
+}
+
+/// Why an origin gets no more.
+#[derive(Drop)]
+pub(crate) enum Stopped {
+    /// It refused what was sent, with this line.
+    Refused(Text),
+    Fault(PushFault),
+}
+
+/// What the threads of the origins share.
+#[derive(Drop)]
+struct Origins<'a, R> {
+    rt: &'a R,
+    alloc: Global,
+    job: &'a Job,
+    survey: Survey,
+    pair: Pair,
+    board: Board<'a, R>,
+    /// Why the origin that was left last gets no more.
+    last: Mutex<Option<Stopped>>,
+}
+
+/// Publishes what an encoder writes, which is read from `source`, at the origins of `job`, of which there are two or more. `shown` says
+/// whether standard error is a terminal.
+pub(crate) fn publish_at_all<
+    C: Calendar,
+    I: Reader,
+    R: Net<Listener = TcpListener, Stream = TcpStream> + Eprint + Clock + Threads + Wait + Sync,
+>(
+    rt: &R,
+    alloc: Global,
+    job: &Job,
+    source: &mut I,
+    clock: &mut C,
+    shown: bool,
+) -> Result<Published, Fault> {
+    let origins = Origins {
+        rt,
+        alloc,
+        job,
+        survey: Survey::new(silent(alloc, job)?),
+        pair: Pair::new(alloc, job.addresses.len(), keep_of(job))?,
+        board: Board::new(rt, alloc, &job.addresses, shown)?,
+        last: Mutex::new(None),
+    };
+    let (whole, fed) = thread::join(
+        rt,
+        || origins.carry_all(),
+        || origins.feed_all(source, clock),
+    );
+    origins.board.end(rt);
+    match fed {
+        Ok(_) if whole => Ok(Published::Whole),
+        Err(stopped) if whole => ending_of(stopped),
+        Err(stopped) => ending_of(origins.last.into_inner().unwrap_or(stopped)),
+        Ok(_) => match origins.last.into_inner() {
+            Some(stopped) => ending_of(stopped),
+            None => Err(Fault::Memory),
+        },
+    }
+}
+
+/// Returns for each origin of `job` that it hasn't said where the rendition stands.
+fn silent(alloc: Global, job: &Job) -> Result<Vec<Option<Standing>>, Fault> {
+    let mut standings = Vec::new(alloc);
+    for _ in &job.addresses {
+        if standings.push(None).is_err() {
+            return Err(Fault::Memory);
+        }
+    }
+    Ok(standings)
+}
+
+/// Returns the most bytes that wait for an origin of `job`.
+fn keep_of(job: &Job) -> usize {
+    usize::try_from(job.plan.keep).unwrap_or(usize::MAX)
+}
+
+/// Returns how publishing ends because of `stopped`.
+fn ending_of(stopped: Stopped) -> Result<Published, Fault> {
+    match stopped {
+        Stopped::Refused(line) => Ok(Published::Refused(line)),
+        Stopped::Fault(fault) => Err(Fault::Push(fault)),
+    }
+}
+
+impl<
+    R: Net<Listener = TcpListener, Stream = TcpStream> + Eprint + Clock + Threads + Wait + Sync,
+> Origins<'_, R> {
+    /// Brings each origin the messages that come for it, each in a thread of its own. Returns whether one of them has accepted everything.
+    fn carry_all(&self) -> bool {
+        let count = self.job.addresses.len();
+        match thread::map_indices(self.rt, self.alloc, count, &|number| self.carry_to(number)) {
+            Ok(ends) => ends.iter().any(|whole| *whole),
+            Err(AllocError) => false,
+        }
+    }
+
+    /// Brings the origin `number` the messages that come for it. Returns whether it has accepted everything.
+    fn carry_to(&self, number: usize) -> bool {
+        let Some(address) = self.job.addresses.get(number) else {
+            return false;
+        };
+        self.survey.answer(self.rt, number, self.told_at(*address));
+        let Some(standing) = self.survey.settled(self.rt) else {
+            return false;
+        };
+        let retry = self.job.plan.retry;
+        let done = carry(
+            self.alloc,
+            &self.job.names(),
+            standing.place,
+            retry.saturating_mul(2),
+            &mut Taker::new(self.rt, &self.pair, number),
+            &mut Connections::new(self.rt, &self.pair, number, *address, retry),
+            &mut Seen::new(self.rt, &self.board, number),
+        );
+        match done {
+            Ok(Ending::Whole) => true,
+            Ok(Ending::Left) => false,
+            Ok(Ending::Refused(line)) => self.leave(number, Stopped::Refused(line)),
+            Err(fault) => self.leave(number, Stopped::Fault(fault)),
+        }
+    }
+
+    /// Asks the origin at `address` where the rendition stands.
+    fn told_at(&self, address: SocketAddrV4) -> Result<Standing, Stopped> {
+        let Some(mut link) = Connector::new(self.rt, address, Duration::ZERO).next() else {
+            return Err(Stopped::Fault(PushFault::Connect));
+        };
+        match ask(self.alloc, &self.job.names(), &mut link) {
+            Ok(Asked::Standing(standing)) => Ok(standing),
+            Ok(Asked::Refused(line)) => Err(Stopped::Refused(line)),
+            Ok(Asked::Lost) => Err(Stopped::Fault(PushFault::Connect)),
+            Err(fault) => Err(Stopped::Fault(fault)),
+        }
+    }
+
+    /// Leaves the origin `number`, and says why, if it wasn't left before. Returns false.
+    fn leave(&self, number: usize, stopped: Stopped) -> bool {
+        if self.pair.leave(self.rt, number) {
+            match &stopped {
+                Stopped::Refused(line) => self.board.leave(self.rt, number, line.as_str()),
+                Stopped::Fault(fault) => self.board.leave(self.rt, number, *fault),
+            }
+            *self.last.lock(self.rt) = Some(stopped);
+        }
+        false
+    }
+
+    /// Gives the origins the messages of what an encoder writes, which is read from `source`. Then no more come.
+    fn feed_all<I: Reader, C: Calendar>(
+        &self,
+        source: &mut I,
+        clock: &mut C,
+    ) -> Result<Fed, Stopped> {
+        let standing = self.survey.settle(self.rt)?;
+        self.board.stands(self.rt, &standing);
+        let target = Target {
+            names: self.job.names(),
+            lengths: self.job.plan.lengths,
+            ends: self.job.plan.ends,
+        };
+        let mut given = Given { origins: self };
+        let done = feed(self.alloc, &target, &standing, source, clock, &mut given);
+        self.pair.end(self.rt);
+        match done {
+            Ok(fed) => Ok(fed),
+            Err(fault) => Err(Stopped::Fault(fault)),
+        }
+    }
+}
+
+/// The origins to which messages are given.
+#[derive(Drop)]
+struct Given<'a, 'b, R> {
+    origins: &'a Origins<'b, R>,
+}
+
+impl<R: Eprint + Clock + Wait> Outlets for Given<'_, '_, R> {
+    ghost use Rattle.std.specs.Prelude.{None};
+
+    ghost given = { λ g. None };
+
+    fn give(&mut self, message: Message) -> Result<bool, AllocError> {
+        let Origins {
+            rt,
+            pair,
+            board,
+            ..
+        } = self.origins;
+        let said = message.said();
+        let bytes = message.bytes().len();
+        let some = pair.give(*rt, message)?;
+        board.given(*rt, pair, said, bytes);
+        Ok(some)
+    }
+}
+
+/// The connections to one origin, which are tried for `retry` seconds, also the first.
+#[derive(Drop)]
+struct Connections<'a, R> {
+    rt: &'a R,
+    pair: &'a Pair,
+    number: usize,
+    connector: Connector<'a, R>,
+    retry: Duration,
+}
+
+impl<'a, R: Net<Listener = TcpListener, Stream = TcpStream>> Connections<'a, R> {
+    /// Returns the connections to the origin `number` of `pair`, at `address`.
+    fn new(
+        rt: &'a R,
+        pair: &'a Pair,
+        number: usize,
+        address: SocketAddrV4,
+        retry: u64,
+    ) -> Connections<'a, R> {
+        Connections {
+            rt,
+            pair,
+            number,
+            connector: Connector::new(rt, address, Duration::from_secs(retry.min(1))),
+            retry: Duration::from_secs(retry),
+        }
+    }
+}
+
+impl<R: Net<Listener = TcpListener, Stream = TcpStream> + Clock + Wait> Source
+    for Connections<'_, R> {
+    type Peer = Socket;
+
+    /// Tries until `retry` has gone by, or the origin is left, with a pause between two attempts.
+    fn next(&mut self) -> Option<Socket> {
+        let start = Instant::now(self.rt).ok()?;
+        for _ in 0..u64::MAX {
+            self.pair.behind(self.rt, self.number)?;
+            if let Some(socket) = self.connector.next() {
+                return Some(socket);
+            }
+            if start.elapsed(self.rt).ok()? >= self.retry {
+                return None;
+            }
+            thread::sleep(self.rt, Duration::from_millis(PAUSE));
+        }
+        None
+    }
+}
