@@ -1,7 +1,7 @@
 #!/usr/bin/env python3
 """spool.py PROGRAM [TEST..]: tests `llhls serve` with a line `spool` in its settings, with real sockets and files, all tests or those of these names. A server is killed at random moments
 while two publishers publish and players follow, and started again: what was answered `ok` is there with its bytes, a name never has other bytes, and playlists go back by no more than the part that was under way. Then come
-spools that are cut at each byte of their end, that are damaged, or that another server has, and a disk that is full. LONG=1 kills it 200 times. The last line is `N passed, M failed`."""
+spools that are cut at each byte of their end, that are damaged, or that another server has, a disk that is full, and files that take no more at each write. LONG=1 kills it 200 times. The last line is `N passed, M failed`."""
 import os
 import random
 import re
