@@ -3,6 +3,7 @@
 by one push for each rendition, and players ask either; one of them is killed at random moments and started again, or stopped for some seconds. Then come connections that are cut at
 each byte of a message, and origins that refuse, never answer, answer nonsense or stand elsewhere. LONG=1 takes more kills and players. The last line is `N passed, M failed`."""
 import os
+import pathlib
 import random
 import re
 import signal
@@ -204,11 +205,17 @@ class Players:
                     each.close()
 
 
-def stand_alike(origins):
-    """Tests that both origins are as far."""
-    for name in 'hi', 'lo':
-        one, two = (each.stands(name) for each in origins)
-        check(one[:2] == two[:2], f'{name} stands at {one} and {two}')
+def place_of(origin, name):
+    """Returns the number of parts of a rendition before its next one."""
+    number, index = origin.stands(name)[:2]
+    return int(number) * SEGMENT + int(index)
+
+
+def stand_alike(origins, least=0, names=('hi', 'lo')):
+    """Tests that both origins are as far, as far as can be said while they go on, and have `least` parts."""
+    for name in names:
+        first, other, last = (place_of(origins[number], name) for number in (0, 1, 0))
+        check(least <= first <= other + SEGMENT and other <= last + SEGMENT, f'{name} stands at part {first}, then at {last}, and the other one at {other} between')
 
 
 def goes_on(room, what):
@@ -243,11 +250,22 @@ def goes_on(room, what):
     check(players.answers > 5 * PLAYERS, f'only {players.answers} parts were answered')
     check(all(not each.fault for each in encoders), encoders[0].fault or encoders[1].fault)
     tell_the_same(origins)
+    # Records are written every 10 seconds.
+    room.pause(11)
     for each in origins:
         each.server.process.terminate()
         each.server.process.wait()
         run = room.run([room.program, 'check', f'{each.record}.cam'])
         check(run.status == 0, f'the record is {run.stdout!r}')
+    for name in 'hi', 'lo':
+        one, two = (items_in(each.record, name) for each in origins)
+        check(one == two and len(one) > 10, f'the records have {len(one)} and {len(two)} items of {name}')
+
+
+def items_in(record, name):
+    """Returns the items of a rendition in the last chain of a record."""
+    chain = pathlib.Path(f'{record}.cam').read_text().split('\nat 0\n')[-1]
+    return [line for line in chain.splitlines() if line.startswith('P ') and line.split()[2] == name]
 
 
 def both_die(room):
@@ -261,18 +279,12 @@ def both_die(room):
     room.pause(1)
     for each in origins:
         each.begin()
-    room.comes(stand_alike_hi, origins, 4, seconds=20)
+    room.comes(stand_alike, origins, 16, ['hi'], seconds=20)
     encoder.close()
     run = ended(push)
     check(run.status == 0, f'it ends with {run.status} and says {run.stderr}')
     check(run.stderr.count(LOST) >= 2, run.stderr)
     tell_the_same(origins, ('hi',))
-
-
-def stand_alike_hi(origins, least):
-    """Tests that both origins are as far, in this segment or a later one."""
-    one, two = (each.stands('hi') for each in origins)
-    check(one[:2] == two[:2] and int(one[0]) >= least, f'they stand at {one} and {two}')
 
 
 # ---- a connection that is cut
@@ -420,7 +432,7 @@ def joins_later(room):
     encoder = Encoder(push)
     room.pause(3)
     origins[0].begin()
-    room.comes(stand_alike_hi, origins, 1, seconds=20)
+    room.comes(stand_alike, origins, 4, ['hi'], seconds=20)
     encoder.close()
     run = ended(push)
     says(run, 0)

@@ -1,8 +1,8 @@
 //! The system's clock, with counts that only proofs see.
 ghost use Rattle.std.specs.Prelude.{◌≡◌};
 
-use crate::push::millis;
 use ll_device::{Failed, TwoCounts};
+use ll_origins::millis;
 use ll_push::Calendar;
 use std::sync::ledger::{Blank, Ledger};
 use std::time::Clock;

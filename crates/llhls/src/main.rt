@@ -8,21 +8,16 @@
 ghost use Rattle.std.specs.Prelude.{◌≡◌, IfErr};
 ghost use Rattle.ll_replay.specs.declared.outcome.RunFault.{RunFault};
 
-mod board;
 mod calendar;
 mod multivariant;
-mod origins;
 mod push;
 mod restoring;
 mod serve;
 mod stop;
-mod survey;
 mod words;
 
-use crate::calendar::SystemCalendar;
 use crate::multivariant::multivariant;
-use crate::origins::{Job, publish_at_all};
-use crate::push::{keep_freed_memory, publish};
+use crate::push::{publish, publish_job};
 use crate::serve::serve;
 use crate::stop::Stop;
 use crate::words::words;
@@ -33,17 +28,15 @@ use ll_command::{
     write_summary, write_upgraded, write_version,
 };
 use ll_device::{CountedReader, CountedWriter};
+use ll_origins::Job;
 use ll_push::Ending as Published;
 use std::alloc::Global;
 use std::fs::File;
 use std::io::IsTerminal;
 use std::marker::Brand;
-use std::net::{Net, SocketAddrV4, TcpListener, TcpStream};
+use std::net::SocketAddrV4;
 use std::process::ExitCode;
-use std::sync::Wait;
 use std::sync::ledger::{Blank, Ledger};
-use std::thread::Threads;
-use std::time::Clock;
 use std::{fs, io};
 
 fn main(rt: HostRuntime) -> ExitCode {
@@ -242,33 +235,6 @@ fn addresses_in(alloc: Global, text: &str) -> Result<Vec<SocketAddrV4>, Fault> {
         }
     }
     Ok(addresses)
-}
-
-/// Publishes what an encoder writes to `input`, its bytes and whether standard error is a terminal, at the origins of `job`. Each blank has
-/// two parts, one for each count.
-fn publish_job<
-    L: Ledger,
-    M: Ledger,
-    R: Net<Listener = TcpListener, Stream = TcpStream> + Eprint + Clock + Threads + Wait + Sync,
->(
-    rt: &R,
-    alloc: Global,
-    input: (io::Stdin, bool),
-    job: &Job,
-    reads: Blank,
-    times: Blank,
-) -> Result<Published, Fault>
-    requires name { reads.name ≡ L.name }
-    requires parts { reads.parts ≡ L.parts }
-    requires two { reads.parts ≡ 2 }
-    requires times_name { times.name ≡ M.name }
-    requires times_parts { times.parts ≡ M.parts }
-    requires times_two { times.parts ≡ 2 }
-{
-    let mut source: CountedReader<io::Stdin, L> = CountedReader::new(input.0, reads);
-    let mut clock: SystemCalendar<'_, R, M> = SystemCalendar::new(rt, times);
-    keep_freed_memory(alloc);
-    publish_at_all(rt, alloc, job, &mut source, &mut clock, input.1)
 }
 
 /// Runs the script on standard input, and writes its answers to standard output.

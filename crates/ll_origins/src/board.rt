@@ -1,5 +1,5 @@
 //! Shows on standard error how publishing at several origins goes on.
-use crate::push::Meter;
+use crate::meter::Meter;
 use ll_announce::{Said, Standing};
 use ll_pair::Pair;
 use ll_push::Watch;

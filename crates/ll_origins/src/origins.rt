@@ -1,10 +1,11 @@
 //! Publishes what an encoder writes at several origins, each of which is sent it by a thread of its own.
 use crate::board::{Board, Seen};
+use crate::connections::Connections;
 use crate::survey::Survey;
 use ll_announce::{Message, Names, Standing};
 use ll_attr::Text;
 use ll_command::{Fault, Plan};
-use ll_device::{Connector, Reader, Socket, Source};
+use ll_device::{Connector, Reader, Source};
 use ll_pair::{Ending, Fed, Outlets, Pair, Taker, carry, feed};
 use ll_push::{Asked, Calendar, Ending as Published, PushFault, Target, ask};
 use std::alloc::{AllocError, Global};
@@ -12,22 +13,19 @@ use std::net::{Net, SocketAddrV4, TcpListener, TcpStream};
 use std::sync::{Mutex, Wait};
 use std::thread;
 use std::thread::Threads;
-use std::time::{Clock, Duration, Instant};
-
-/// The pause between two attempts to reach an origin, in milliseconds.
-const PAUSE: u64 = 500;
+use std::time::{Clock, Duration};
 
 /// What is published, and where.
 #[derive(Drop)]
-pub(crate) struct Job {
+pub struct Job {
     /// The addresses at which the origins listen for publishers.
-    pub(crate) addresses: Vec<SocketAddrV4>,
+    pub addresses: Vec<SocketAddrV4>,
     /// The name of the channel.
-    pub(crate) channel: Text,
+    pub channel: Text,
     /// The name of one of its renditions.
-    pub(crate) rendition: Text,
+    pub rendition: Text,
     /// How the encoder's output is published.
-    pub(crate) plan: Plan,
+    pub plan: Plan,
 }
 
 impl Job {
@@ -63,7 +61,7 @@ struct Origins<'a, R> {
 
 /// Publishes what an encoder writes, which is read from `source`, at the origins of `job`, of which there are two or more. `shown` says
 /// whether standard error is a terminal.
-pub(crate) fn publish_at_all<
+pub fn publish_at_all<
     C: Calendar,
     I: Reader,
     R: Net<Listener = TcpListener, Stream = TcpStream> + Eprint + Clock + Threads + Wait + Sync,
@@ -235,55 +233,5 @@ impl<R: Eprint + Clock + Wait> Outlets for Given<'_, '_, R> {
         let some = pair.give(*rt, message)?;
         board.given(*rt, pair, said, bytes);
         Ok(some)
-    }
-}
-
-/// The connections to one origin, which are tried for `retry` seconds, also the first.
-#[derive(Drop)]
-struct Connections<'a, R> {
-    rt: &'a R,
-    pair: &'a Pair,
-    number: usize,
-    connector: Connector<'a, R>,
-    retry: Duration,
-}
-
-impl<'a, R: Net<Listener = TcpListener, Stream = TcpStream>> Connections<'a, R> {
-    /// Returns the connections to the origin `number` of `pair`, at `address`.
-    fn new(
-        rt: &'a R,
-        pair: &'a Pair,
-        number: usize,
-        address: SocketAddrV4,
-        retry: u64,
-    ) -> Connections<'a, R> {
-        Connections {
-            rt,
-            pair,
-            number,
-            connector: Connector::new(rt, address, Duration::from_secs(retry.min(1))),
-            retry: Duration::from_secs(retry),
-        }
-    }
-}
-
-impl<R: Net<Listener = TcpListener, Stream = TcpStream> + Clock + Wait> Source
-    for Connections<'_, R> {
-    type Peer = Socket;
-
-    /// Tries until `retry` has gone by, or the origin is left, with a pause between two attempts.
-    fn next(&mut self) -> Option<Socket> {
-        let start = Instant::now(self.rt).ok()?;
-        for _ in 0..u64::MAX {
-            self.pair.behind(self.rt, self.number)?;
-            if let Some(socket) = self.connector.next() {
-                return Some(socket);
-            }
-            if start.elapsed(self.rt).ok()? >= self.retry {
-                return None;
-            }
-            thread::sleep(self.rt, Duration::from_millis(PAUSE));
-        }
-        None
     }
 }
