@@ -1,5 +1,5 @@
 -- Accepted items are kept before they are answered.
-use Rattle.std.specs.Prelude.{◌≡◌, ◌⊎◌, ⊤, ℕ, Option, Some, Result, Ok, Err}
+use Rattle.std.specs.Prelude.{◌≡◌, ◌⊎◌, ⊤, ℕ, Option, Some, None, Result, Ok, Err}
 use Rattle.ll_link.specs.declared.keeping.Token.{Token}
 use Rattle.ll_link.specs.declared.keeping.Token.TheVariants as token
 use Rattle.ll_publish.specs.declared.refusal.Refusal.{Refusal}
