@@ -73,8 +73,7 @@ impl<'a, R: Eprint + Clock + Wait> Board<'a, R> {
         let mut shown = self.0.lock(rt);
         let Rows { meter, rows } = &mut *shown;
         let due = meter.add(said, bytes);
-        let mut number = 0;
-        for row in rows.iter_mut() {
+        for (number, row) in rows.iter_mut().enumerate() {
             let behind = pair.behind(rt, number);
             if behind.is_none() && row.link != Link::Left {
                 row.link = Link::Left;
@@ -84,7 +83,6 @@ impl<'a, R: Eprint + Clock + Wait> Board<'a, R> {
             if due {
                 show(rt, row, behind);
             }
-            number += 1;
         }
     }
 
