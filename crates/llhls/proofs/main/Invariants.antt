@@ -2,7 +2,7 @@
 use Rattle.llhls.proofs.main.Given as goal
 
 abbrev pub ghosts-publish_job-L-Ledger : goal.ghosts-publish_job-L-Ledger
-ghosts-publish_job-L-Ledger a = record { name = a.reads.name; parts = a.reads.parts }
+ghosts-publish_job-L-Ledger bounds a = record { name = a.reads.name; parts = a.reads.parts }
 
 abbrev pub ghosts-publish_job-M-Ledger : goal.ghosts-publish_job-M-Ledger
-ghosts-publish_job-M-Ledger a = record { name = a.times.name; parts = a.times.parts }
+ghosts-publish_job-M-Ledger bounds a = record { name = a.times.name; parts = a.times.parts }
