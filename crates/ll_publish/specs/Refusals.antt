@@ -5,9 +5,9 @@ use Rattle.ll_item.specs.declared.item.ItemFault.TheVariants as item
 use Rattle.ll_rendition.specs.declared.fault.PublishFault.{PublishFault}
 use Rattle.ll_rendition.specs.declared.fault.PublishFault.TheVariants as fault
 use Rattle.ll_publish.specs.declared.refusal.Refusal.{Refusal}
-use Rattle.ll_publish.specs.declared.refusal.Refusal.TheVariants.{Rule, BadLine, UnknownChannel, LineTooLong, MediaTooLong}
+use Rattle.ll_publish.specs.declared.refusal.Refusal.TheVariants.{Rule, BadLine, UnknownChannel, LineTooLong, MediaTooLong, NotAllowed}
 use Rattle.ll_publish.specs.declared.success.Success.{Success}
-use Rattle.ll_publish.specs.declared.success.Success.TheVariants.{Accepted, NotKept, Standing}
+use Rattle.ll_publish.specs.declared.success.Success.TheVariants.{Accepted, NotKept, Standing, Opened}
 use Rattle.ll_verdict.specs.declared.standing.Standing as verdict
 
 abbrev pub out_of_memory : Refusal
@@ -42,6 +42,7 @@ refusal_code BadLine = 13
 refusal_code UnknownChannel = 14
 refusal_code LineTooLong = 15
 refusal_code MediaTooLong = 16
+refusal_code NotAllowed = 19
 
 abbrev pub rule_name : PublishFault → List ℕ
 rule_name fault.NoRendition = codes "NoRendition"
@@ -65,6 +66,7 @@ refusal_name BadLine = codes "BadLine"
 refusal_name UnknownChannel = codes "UnknownChannel"
 refusal_name LineTooLong = codes "LineTooLong"
 refusal_name MediaTooLong = codes "MediaTooLong"
+refusal_name NotAllowed = codes "NotAllowed"
 
 -- the line that refuses, with a code and a name
 unfoldable pub refusal_line : ℕ → List ℕ → List ℕ
@@ -99,4 +101,5 @@ abbrev pub reply_line : Result Success Refusal → List ℕ
 reply_line (Ok (Accepted count)) = ok_line count
 reply_line (Ok (NotKept count)) = not_kept_line
 reply_line (Ok (Standing standing)) = at_line standing
+reply_line (Ok Opened) = ok_line 0
 reply_line (Err reason) = no_line reason

@@ -18,6 +18,8 @@ pub enum Refusal {
     LineTooLong,
     /// An item of more than 1,048,576 bytes.
     MediaTooLong,
+    /// A channel with a secret, on a connection that hasn't given it.
+    NotAllowed,
 }
 
 impl From<PublishFault> for Refusal {
@@ -58,6 +60,7 @@ impl Refusal {
             Refusal::UnknownChannel => 14,
             Refusal::LineTooLong => 15,
             Refusal::MediaTooLong => 16,
+            Refusal::NotAllowed => 19,
         }
     }
 
@@ -71,6 +74,7 @@ impl Refusal {
             Refusal::UnknownChannel => "UnknownChannel",
             Refusal::LineTooLong => "LineTooLong",
             Refusal::MediaTooLong => "MediaTooLong",
+            Refusal::NotAllowed => "NotAllowed",
         }
     }
 }

@@ -16,6 +16,7 @@ pub fn reply_text(alloc: Global, reply: &Result<Success, Refusal>) -> Result<Str
         Ok(Success::Accepted(count)) => ok_line(alloc, *count),
         Ok(Success::NotKept(_)) => refusal_line(alloc, 20, "NotKept"),
         Ok(Success::Standing(standing)) => at_line(alloc, standing),
+        Ok(Success::Opened) => ok_line(alloc, 0),
         Err(reason) => no_line(alloc, *reason),
     }
 }

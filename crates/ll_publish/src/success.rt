@@ -11,4 +11,6 @@ pub enum Success {
     NotKept(u64),
     /// Where the rendition that was asked about stands.
     Standing(Standing),
+    /// The line gave the secret of its channel, to which the connection may publish from now on.
+    Opened,
 }
