@@ -18,3 +18,8 @@ LeadsPast number (Err bad) = ⊥
 abbrev pub IsRightTo : {A : Type 0} → ℕ → Result A ℕ → Type 0
 IsRightTo number (Ok value) = Unit
 IsRightTo number (Err bad) = number < bad
+
+-- a reading that succeeds leads past the line `number`, and the line that is wrong, if any is, comes after it
+abbrev pub IsRightPast : {A : Type 0} → ℕ → Result (A × Left) ℕ → Type 0
+IsRightPast number (Ok read) = number < read.1.number
+IsRightPast number (Err bad) = number < bad

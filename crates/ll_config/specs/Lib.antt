@@ -1,3 +1,4 @@
 -- The definitions of this crate: a server's settings file.
 pub mod Config
+pub mod Doors
 pub mod Faults

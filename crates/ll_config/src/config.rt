@@ -1,42 +1,53 @@
 //! Reads a server's settings file, which has one setting per line.
-ghost use Rattle.std.specs.Prelude.{◌≡◌, ◌≤◌, ◌<◌, ◌+◌, IfErr, IfOk, IsErrOf, IsOk, OnErr, OnOk, Ok, Err, [], Some, length, option_map, vec_len, ℕ};
-ghost use Rattle.ll_settings.specs.Settings.{settings_in};
-ghost use Rattle.ll_config.specs.Config as spec;
-ghost use Rattle.ll_config.specs.Config.{address_line, channel_line, channels_from, config_in, next, next_path, path_line, workers_line};
-ghost use Rattle.ll_config.specs.Faults.{IsFault, IsRightTo, LeadsPast};
+ghost use Rattle.std.specs.Prelude.{◌≡◌, ◌≤◌, ◌<◌, ◌+◌, IfErr, IfOk, IfSome, IsErrOf, OnOk, Ok, length, option_map, ℕ};
+ghost use Rattle.ll_config.specs.Config.{address_line, config_in, count_line, door_line, files_from, hosted_from, next, next_idle, next_path, next_status, nobody, path_line, workers_line};
+ghost use Rattle.ll_config.specs.Doors.{door_of};
+ghost use Rattle.ll_config.specs.Faults.{IsFault, IsRightPast, IsRightTo, LeadsPast};
 
+use crate::door::{Door, DoorText, address_in, door_in};
 use crate::fault::ConfigFault;
+use crate::hosted::Hosted;
 use crate::lines::Lines;
 use ll_attr::{Text, after, parse_number};
-use ll_settings::{Settings, SettingsFault};
 use std::alloc::{AllocError, Global};
-use std::net::SocketAddrV4;
-
-/// The most channels of a server.
-pub const CHANNELS: usize = 1_024;
+use std::net::SocketAddr;
 
 /// The most workers.
 const WORKERS: u64 = 4_096;
+
+/// The longest silence of a publisher, in seconds.
+const IDLE: u64 = 86_400;
 
 /// The settings of a server: the lines of its settings file, in this order.
 #[derive(Drop)]
 pub struct Config {
     /// `listen ADDRESS:PORT`: where players connect.
-    pub players: SocketAddrV4,
-    /// `publish ADDRESS:PORT`: where publishers connect.
-    pub publishers: SocketAddrV4,
+    pub players: SocketAddr,
+    /// `publish ADDRESS:PORT` or `publish unix:PATH`: where publishers connect.
+    pub publishers: Door,
     /// `workers N`: how many connections of publishers are served at once, and how many threads serve players at most.
     pub workers: Workers,
+    /// What the server writes.
+    pub files: Files,
+    /// `status ADDRESS:PORT`, which is optional: where those connect who watch the server.
+    pub status: Option<SocketAddr>,
+    /// `idle N`, which is optional: after how many seconds without a byte a publisher is ended, 1 to 86,400.
+    pub idle: Option<u64>,
+    /// The settings lines of 1 to 1,024 channels with distinct names, each perhaps with a line `secret DIGEST` after it.
+    pub hosted: Hosted,
+    ghost some_channel: { 1 ≤ length hosted.channels },
+    ghost few_channels: { length hosted.channels ≤ 1024 },
+}
+
+/// The paths of what a server writes.
+#[derive(Drop)]
+pub struct Files {
     /// `record PATH`, which is optional: the path that the names of the records' files begin with.
-    pub record: Option<Text>,
+    pub records: Option<Text>,
     /// `log PATH`, which is optional: the file that each channel's numbers go to.
     pub log: Option<Text>,
     /// `spool DIRECTORY`, which is optional: the directory of the channels' spools.
     pub spool: Option<Text>,
-    /// The settings lines of 1 to 1,024 channels with distinct names.
-    pub channels: Vec<Settings>,
-    ghost some_channel: { 1 ≤ vec_len channels },
-    ghost few_channels: { vec_len channels ≤ 1024 },
 }
 
 /// How many connections of publishers are served at once, and how many threads serve players at most.
@@ -60,52 +71,73 @@ impl Config {
           players = c.players;
           publishers = c.publishers;
           workers = c.workers.count;
-          record_path = c.record;
-          log_path = c.log;
-          spool_path = c.spool;
-          channels = c.channels.items;
+          files = c.files;
+          status = c.status;
+          idle = c.idle;
+          hosted = c.hosted;
         })) }
         ensures refused { (line : ℕ) → IsErrOf result (ConfigFault.BadLine line) → config_in bytes.now ≡ Err line }
         ensures memory { IsErrOf result ConfigFault.Memory → IfErr (config_in bytes.now) (λ line. 4 < line) }
     {
         let mut lines = Lines::of(bytes);
         let players = read_address(&mut lines, "listen ")?;
-        let publishers = read_address(&mut lines, "publish ")?;
+        let door = read_door(&mut lines)?;
         let workers = read_workers(&mut lines)?;
-        let record = read_path(alloc, &mut lines, "record ")?;
-        let log = read_path(alloc, &mut lines, "log ")?;
-        let spool = read_path(alloc, &mut lines, "spool ")?;
-        let channels = read_channels(alloc, &mut lines)?;
+        let files = read_files(alloc, &mut lines)?;
+        let status = read_status(&mut lines)?;
+        let idle = read_idle(&mut lines)?;
+        let hosted = read_hosted(alloc, &mut lines)?;
+        let publishers = door.door(alloc)?;
         Ok(Config {
             players,
             publishers,
             workers,
-            record,
-            log,
-            spool,
-            channels,
+            files,
+            status,
+            idle,
+            hosted,
         })
     }
 }
 
 /// Reads the address in the next line, after `keyword`.
-fn read_address(lines: &mut Lines<'_>, keyword: &str) -> Result<SocketAddrV4, ConfigFault>
+fn read_address(lines: &mut Lines<'_>, keyword: &str) -> Result<SocketAddr, ConfigFault>
     ensures value { IfOk result (λ a. next (address_line keyword.now) lines.old ≡ Ok (a, lines.new)) }
     ensures number { OnOk result (lines.new.number ≡ lines.old.number + 1) }
     ensures bad { IfErr result (λ fault. IsFault fault (next (address_line keyword.now) lines.old) ⊥) }
 {
     let line = lines.text()?;
-    match address_in(line, keyword) {
+    match address_after(line, keyword) {
         Some(address) => Ok(address),
         None => Err(lines.bad()),
     }
 }
 
 /// Parses the address in `line`, after `keyword`.
-fn address_in(line: &str, keyword: &str) -> Option<SocketAddrV4>
+fn address_after(line: &str, keyword: &str) -> Option<SocketAddr>
     ensures { result ≡ address_line keyword.now line.now }
 {
-    after(line, keyword)?.parse::<SocketAddrV4>().ok()
+    address_in(after(line, keyword)?)
+}
+
+/// Reads where publishers connect in the next line.
+fn read_door<'a>(lines: &mut Lines<'a>) -> Result<DoorText<'a>, ConfigFault>
+    ensures value { IfOk result (λ door. next door_line lines.old ≡ Ok (door_of door, lines.new)) }
+    ensures number { OnOk result (lines.new.number ≡ lines.old.number + 1) }
+    ensures bad { IfErr result (λ fault. IsFault fault (next door_line lines.old) ⊥) }
+{
+    let line = lines.text()?;
+    match door_after(line) {
+        Some(door) => Ok(door),
+        None => Err(lines.bad()),
+    }
+}
+
+/// Parses where publishers connect in `line`.
+fn door_after(line: &str) -> Option<DoorText<'_>>
+    ensures { option_map door_of result ≡ door_line line.now }
+{
+    door_in(after(line, "publish ")?)
 }
 
 /// Reads the number of workers in the next line.
@@ -114,28 +146,57 @@ fn read_workers(lines: &mut Lines<'_>) -> Result<Workers, ConfigFault>
     ensures number { OnOk result (lines.new.number ≡ lines.old.number + 1) }
     ensures bad { IfErr result (λ fault. IsFault fault (next workers_line lines.old) ⊥) }
 {
+    let count = read_count(lines, "workers ", WORKERS)?;
+    Ok(Workers {
+        count: count as usize,
+    })
+}
+
+/// Reads the number in the next line, after `keyword`: 1 to `most`.
+fn read_count(lines: &mut Lines<'_>, keyword: &str, most: u64) -> Result<u64, ConfigFault>
+    ensures value { IfOk result (λ n. next (count_line keyword.now most) lines.old ≡ Ok (n, lines.new)) }
+    ensures some { IfOk result (λ n. (1 ≤ n) × (n ≤ most)) }
+    ensures number { OnOk result (lines.new.number ≡ lines.old.number + 1) }
+    ensures bad { IfErr result (λ fault. IsFault fault (next (count_line keyword.now most) lines.old) ⊥) }
+{
     let line = lines.text()?;
-    match workers_in(line) {
-        Some(workers) => Ok(workers),
+    match count_after(line, keyword, most) {
+        Some(count) => Ok(count),
         None => Err(lines.bad()),
     }
 }
 
-/// Parses the number of workers in `line`: 1 to 4,096.
-fn workers_in(line: &str) -> Option<Workers>
-    ensures { option_map (λ w. w.count) result ≡ workers_line line.now }
+/// Parses the number in `line`, after `keyword`: 1 to `most`.
+fn count_after(line: &str, keyword: &str, most: u64) -> Option<u64>
+    ensures value { result ≡ count_line keyword.now most line.now }
+    ensures some { IfSome result (λ n. (1 ≤ n) × (n ≤ most)) }
 {
-    let count = parse_number(after(line, "workers ")?, 20)?;
-    if 1 <= count && count <= WORKERS {
-        Some(Workers {
-            count: count as usize,
-        })
+    let count = parse_number(after(line, keyword)?, 20)?;
+    if 1 <= count && count <= most {
+        Some(count)
     } else {
         None
     }
 }
 
+/// Reads the paths of files in the next lines.
+fn read_files(alloc: Global, lines: &mut Lines<'_>) -> Result<Files, ConfigFault>
+    ensures value { IfOk result (λ f. files_from lines.old ≡ Ok (f, lines.new)) }
+    ensures number { OnOk result (lines.old.number ≤ lines.new.number) }
+    ensures bad { IfErr result (λ fault. IsFault fault (files_from lines.old) (IsRightPast lines.old.number (files_from lines.old))) }
+{
+    let records = read_path(alloc, lines, "record ")?;
+    let log = read_path(alloc, lines, "log ")?;
+    let spool = read_path(alloc, lines, "spool ")?;
+    Ok(Files {
+        records,
+        log,
+        spool,
+    })
+}
+
 /// Reads the path in the next line, if that begins with `keyword`. Any other line is left for later.
+#[tactic(auto, using(crate::proofs::ConfigLemmas::begun_value, crate::proofs::ConfigLemmas::begun_bad, crate::proofs::ConfigLemmas::begun_past))]
 fn read_path(
     alloc: Global,
     lines: &mut Lines<'_>,
@@ -148,13 +209,23 @@ fn read_path(
     if !lines.begins(keyword) {
         return Ok(None);
     }
-    let line = lines.text()?;
-    let Some(path) = path_in(line, keyword) else {
-        return Err(lines.bad());
-    };
+    let path = read_path_text(lines, keyword)?;
     match Text::from_str(alloc, path) {
         Ok(path) => Ok(Some(path)),
         Err(AllocError) => Err(ConfigFault::Memory),
+    }
+}
+
+/// Reads the path in the next line, after `keyword`.
+fn read_path_text<'a>(lines: &mut Lines<'a>, keyword: &str) -> Result<&'a str, ConfigFault>
+    ensures value { IfOk result (λ p. next (path_line keyword.now) lines.old ≡ Ok (p.now, lines.new)) }
+    ensures number { OnOk result (lines.new.number ≡ lines.old.number + 1) }
+    ensures bad { IfErr result (λ fault. IsFault fault (next (path_line keyword.now) lines.old) ⊥) }
+{
+    let line = lines.text()?;
+    match path_in(line, keyword) {
+        Some(path) => Ok(path),
+        None => Err(lines.bad()),
     }
 }
 
@@ -166,54 +237,50 @@ fn path_in<'a>(line: &'a str, keyword: &str) -> Option<&'a str>
     if path.is_empty() { None } else { Some(path) }
 }
 
-/// Reads the channels of all lines that are left. Without a line the next one is bad.
-fn read_channels(alloc: Global, lines: &mut Lines<'_>) -> Result<Vec<Settings>, ConfigFault>
-    ensures value { IfOk result (λ all. channels_from [] lines.old.lines lines.old.number ≡ Ok all.items) }
-    ensures bad { IfErr result (λ fault. IsFault fault (channels_from [] lines.old.lines lines.old.number) (IsRightTo lines.old.number (channels_from [] lines.old.lines lines.old.number))) }
-    ensures some { IfOk result (λ all. 1 ≤ vec_len all) }
-    ensures few { IfOk result (λ all. vec_len all ≤ 1024) }
+/// Reads the address of the status port in the next line, if that begins with `status`. Any other line is left for later.
+#[tactic(auto, using(crate::proofs::ConfigLemmas::begun_value, crate::proofs::ConfigLemmas::begun_bad))]
+fn read_status(lines: &mut Lines<'_>) -> Result<Option<SocketAddr>, ConfigFault>
+    ensures value { IfOk result (λ a. next_status lines.old ≡ Ok (a, lines.new)) }
+    ensures number { OnOk result (lines.old.number ≤ lines.new.number) }
+    ensures bad { IfErr result (λ fault. IsFault fault (next_status lines.old) ⊥) }
 {
-    let mut all: Vec<Settings> = Vec::new(alloc);
+    if !lines.begins("status ") {
+        return Ok(None);
+    }
+    Ok(Some(read_address(lines, "status ")?))
+}
+
+/// Reads a publisher's longest silence in the next line, if that begins with `idle`. Any other line is left for later.
+#[tactic(auto, using(crate::proofs::ConfigLemmas::begun_value, crate::proofs::ConfigLemmas::begun_bad))]
+fn read_idle(lines: &mut Lines<'_>) -> Result<Option<u64>, ConfigFault>
+    ensures value { IfOk result (λ n. next_idle lines.old ≡ Ok (n, lines.new)) }
+    ensures number { OnOk result (lines.old.number ≤ lines.new.number) }
+    ensures bad { IfErr result (λ fault. IsFault fault (next_idle lines.old) ⊥) }
+{
+    if !lines.begins("idle ") {
+        return Ok(None);
+    }
+    Ok(Some(read_count(lines, "idle ", IDLE)?))
+}
+
+/// Reads the channels of all lines that are left. Without a line the next one is bad.
+fn read_hosted(alloc: Global, lines: &mut Lines<'_>) -> Result<Hosted, ConfigFault>
+    ensures value { IfOk result (λ all. hosted_from nobody lines.old.lines lines.old.number ≡ Ok all) }
+    ensures bad { IfErr result (λ fault. IsFault fault (hosted_from nobody lines.old.lines lines.old.number) (IsRightTo lines.old.number (hosted_from nobody lines.old.lines lines.old.number))) }
+    ensures some { IfOk result (λ all. 1 ≤ length all.channels) }
+    ensures few { IfOk result (λ all. length all.channels ≤ 1024) }
+{
+    let mut all = Hosted::new(alloc);
     while !lines.is_over() {
         let line = lines.text()?;
-        match channel_in(alloc, &all, line) {
-            Ok(Some(settings)) => {
-                if all.push(settings).is_err() {
-                    return Err(ConfigFault::Memory);
-                }
-            }
-            Ok(None) => return Err(lines.bad()),
+        match all.add_line(alloc, line) {
+            Ok(true) => {}
+            Ok(false) => return Err(lines.bad()),
             Err(AllocError) => return Err(ConfigFault::Memory),
         }
     }
-    if all.is_empty() {
+    if all.channels().is_empty() {
         return Err(lines.missing());
     }
     Ok(all)
-}
-
-/// Parses the channel of the settings line `line`, or returns `None` if it isn't allowed after the channels `before`.
-fn channel_in(
-    alloc: Global,
-    before: &[Settings],
-    line: &str,
-) -> Result<Option<Settings>, AllocError>
-    ensures value { IfOk result (λ s. s ≡ channel_line before.now line.now) }
-    ensures memory { OnErr result (IsOk (settings_in line.now)) }
-{
-    if before.len() >= CHANNELS {
-        return Ok(None);
-    }
-    match Settings::read(alloc, line) {
-        Ok(settings) if !has_name(before, settings.channel()) => Ok(Some(settings)),
-        Err(SettingsFault::Memory) => Err(AllocError),
-        _ => Ok(None),
-    }
-}
-
-/// Returns whether one of the channels `all` has the name `name`.
-fn has_name(all: &[Settings], name: &str) -> bool
-    ensures { result ≡ spec.has_name all.now name.now }
-{
-    all.iter().any(|settings| settings.channel() == name)
 }

@@ -1,4 +1,5 @@
 //! What can be wrong with a settings file.
+use std::alloc::AllocError;
 use thiserror::Error;
 
 /// Why a settings file can't be used.
@@ -11,4 +12,15 @@ pub enum ConfigFault {
     /// Out of memory for a path or a channel. The lines before it are right.
     #[error("Memory")]
     Memory,
+}
+
+impl From<AllocError> for ConfigFault {
+    ghost use Rattle.std.specs.Prelude.{◌≡◌};
+    ghost use Rattle.ll_config.specs.declared.fault.ConfigFault.TheVariants.{Memory};
+
+    ghost from_gives = { λ error fault. fault ≡ Memory };
+
+    fn from(_error: AllocError) -> ConfigFault {
+        ConfigFault::Memory
+    }
 }
