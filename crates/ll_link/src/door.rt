@@ -1,0 +1,67 @@
+//! What becomes of a publisher's line at the door of its channel.
+ghost use Rattle.std.specs.Prelude.{◌≡◌, Decides, MatchOption, None, Option, Some, List, ℕ};
+ghost use Rattle.ll_link.specs.Doors as spec;
+ghost use Rattle.ll_link.specs.Doors.{origin, passage_at, passage_by, secret_at};
+ghost use Rattle.ll_link.specs.Passages.{passage_of};
+ghost use Rattle.ll_door.specs.Doors.{secret_in as given_in};
+ghost use Rattle.ll_publish.specs.Meaning.{meant};
+ghost use Rattle.ll_settings.specs.Channels.{channel_of_name};
+
+use crate::service::Service;
+use ll_door::{Digest, secret_in};
+use ll_hub::Ledgers;
+use ll_publish::Line;
+
+/// What becomes of a publisher's line.
+#[derive(Clone, Copy)]
+pub(crate) enum Passage {
+    /// It is read.
+    Passes,
+    /// It gives the secret of the channel at this place.
+    Opens(usize),
+    /// The channel at this place has a secret, which was not given before the line nor is by it.
+    Stays(usize),
+}
+
+/// Returns what becomes of a line that gives the word `word`, or none, for the channel at `channel`, whose secret has the digest `digest`.
+/// `opened` are the places of the channels that are open.
+fn passage_with(digest: &Digest, word: Option<&str>, opened: &[usize], channel: usize) -> Passage
+    ensures { passage_of result ≡ passage_by (Some digest.now) (option_map (λ w. w.now) word) (spec.is_open opened.now channel) channel }
+{
+    let passes = match word {
+        Some(word) if digest.is_of(word) => return Passage::Opens(channel),
+        Some(_) => false,
+        None => opened.iter().any(|each| *each == channel),
+    };
+    if passes {
+        Passage::Passes
+    } else {
+        Passage::Stays(channel)
+    }
+}
+
+impl<L: Ledgers, C, G, K, D, B, R> Service<'_, L, C, G, K, D, B, R> {
+    /// Returns what becomes of `line` on a connection that has opened the channels at the places `opened`.
+    pub(crate) fn passage(&self, opened: &[usize], line: &Line<'_>) -> Passage
+        ensures { passage_of result ≡ spec.passage (origin self.now.hub.now self.now.secrets.now) opened.now (meant line.now) }
+    {
+        match line {
+            Line::Item(name, text, _) => self.passage_of(opened, name, secret_in(text)),
+            Line::At(name, _) => self.passage_of(opened, name, None),
+            Line::Bad | Line::TooLong | Line::MediaTooLong => Passage::Passes,
+        }
+    }
+
+    /// Returns what becomes of a line for the channel named `name` that gives the word `word`, or none.
+    fn passage_of(&self, opened: &[usize], name: &str, word: Option<&str>) -> Passage
+        ensures { passage_of result ≡ passage_at self.now.secrets.now opened.now (option_map (λ w. w.now) word) (channel_of_name self.now.hub.now 0 name.now) }
+    {
+        match self.hub.find(name) {
+            Some((channel, _)) => match self.secrets.get(channel) {
+                Some(Some(digest)) => passage_with(digest, word, opened, channel),
+                _ => Passage::Passes,
+            },
+            None => Passage::Passes,
+        }
+    }
+}
