@@ -1,15 +1,19 @@
 //! What is counted of one channel, and the line of numbers that is written of it.
+use crate::counter::Counter;
+use crate::numbers::Health;
+use crate::pulse::Pulse;
 use ll_attr::Text;
 use ll_format::UtcTime;
+use ll_item::Item;
 use ll_publish::Refusal;
+use ll_settings::Settings;
 use ll_verdict::{AskFault, PublishFault, Reply};
 use ll_wire::Answer;
 use std::alloc::{AllocError, Global};
 use std::fmt;
-use std::sync::atomic::{AtomicU64, Ordering};
 
 /// Why an item is refused once its channel is known, in the order of the line of numbers.
-const REFUSALS: [Refusal; 15] = [
+pub(crate) const REFUSALS: [Refusal; 15] = [
     Refusal::Rule(PublishFault::NoRendition),
     Refusal::Rule(PublishFault::Ended),
     Refusal::Rule(PublishFault::BadDuration),
@@ -27,63 +31,48 @@ const REFUSALS: [Refusal; 15] = [
     Refusal::Rule(PublishFault::TimeBack),
 ];
 
-/// A number that several threads change.
-#[derive(Drop)]
-struct Counter(AtomicU64);
-
-impl Counter {
-    fn new() -> Counter {
-        Counter(AtomicU64::new(0))
-    }
-
-    fn add(&self) {
-        self.0.fetch_add(1, Ordering::SeqCst);
-    }
-
-    fn take_away(&self) {
-        self.0.fetch_sub(1, Ordering::SeqCst);
-    }
-
-    fn now(&self) -> u64 {
-        self.0.load(Ordering::SeqCst)
-    }
-}
-
 /// What is counted of one channel.
 #[derive(Drop)]
 pub(crate) struct Counts {
     /// The channel's name.
-    name: Text,
+    pub(crate) name: Text,
+    /// Its target duration in seconds.
+    pub(crate) target: u64,
     /// The number of requests that wait now.
-    held: Counter,
-    playlists: Counter,
-    updates: Counter,
-    media: Counter,
-    not_found: Counter,
-    too_far: Counter,
-    busy: Counter,
-    timeouts: Counter,
+    pub(crate) held: Counter,
+    pub(crate) playlists: Counter,
+    pub(crate) updates: Counter,
+    pub(crate) media: Counter,
+    pub(crate) not_found: Counter,
+    pub(crate) too_far: Counter,
+    pub(crate) busy: Counter,
+    pub(crate) timeouts: Counter,
     /// The number of requests that its full record had no place for.
-    record_full: Counter,
+    pub(crate) record_full: Counter,
     /// The number of requests that failed out of memory.
-    memory: Counter,
+    pub(crate) memory: Counter,
+    /// The number of bytes of playlists and media that players got.
+    pub(crate) sent: Counter,
     /// The number of items that were accepted.
     items: Counter,
     /// The number of items that were refused for each of [`REFUSALS`].
-    refused: Vec<Counter>,
+    pub(crate) refused: Vec<Counter>,
     /// How often its record was handed out because it was full.
-    full_records: Counter,
+    pub(crate) full_records: Counter,
+    /// Its renditions, in their order.
+    pub(crate) renditions: Vec<Pulse>,
 }
 
 impl Counts {
-    /// Returns counts of 0 for the channel `name`.
-    pub(crate) fn new(alloc: Global, name: &str) -> Result<Counts, AllocError> {
+    /// Returns counts of 0 for the channel with these settings.
+    pub(crate) fn new(alloc: Global, settings: &Settings) -> Result<Counts, AllocError> {
         let mut refused = Vec::with_capacity(alloc, REFUSALS.len())?;
         for _ in 0..REFUSALS.len() {
             refused.push(Counter::new())?;
         }
         Ok(Counts {
-            name: Text::from_str(alloc, name)?,
+            name: Text::from_str(alloc, settings.channel())?,
+            target: settings.target(),
             held: Counter::new(),
             playlists: Counter::new(),
             updates: Counter::new(),
@@ -94,9 +83,11 @@ impl Counts {
             timeouts: Counter::new(),
             record_full: Counter::new(),
             memory: Counter::new(),
+            sent: Counter::new(),
             items: Counter::new(),
             refused,
             full_records: Counter::new(),
+            renditions: pulses(alloc, settings.renditions())?,
         })
     }
 
@@ -126,6 +117,7 @@ impl Counts {
     }
 
     fn replied(&self, reply: &Reply) {
+        self.sent.add_all(bytes_of(reply));
         let counter = match reply {
             Reply::Text(page) => match page.update() {
                 Some(_) => &self.updates,
@@ -140,16 +132,44 @@ impl Counts {
         counter.add();
     }
 
-    /// Counts an item that was accepted, or that was refused for `refusal`.
-    pub(crate) fn published(&self, refusal: Option<Refusal>) {
-        let Some(refusal) = refusal else {
-            self.items.add();
-            return;
-        };
+    /// Counts `item`, which was accepted at `now`, in milliseconds since the server's start.
+    pub(crate) fn accepted(&self, item: &Item, now: u64) {
+        self.items.add();
+        if let Some(pulse) = self.renditions.get(item.rendition()) {
+            pulse.accepted(item, now);
+        }
+    }
+
+    /// Notes `item`, which a start published again at `now`, in milliseconds since the server's start. Doesn't count it.
+    pub(crate) fn restored(&self, item: &Item, now: u64) {
+        if let Some(pulse) = self.renditions.get(item.rendition()) {
+            pulse.note(item, now);
+        }
+    }
+
+    /// Counts an item that was refused for `refusal`.
+    pub(crate) fn refused(&self, refusal: Refusal) {
         for (counter, each) in self.refused.iter().zip(REFUSALS.iter()) {
             if *each == refusal {
                 counter.add();
             }
+        }
+    }
+
+    /// Returns whether its parts come; `now` is in milliseconds since the server's start.
+    pub(crate) fn health(&self, alloc: Global, now: u64) -> Result<Health, AllocError> {
+        let most = self.target.saturating_mul(3_000);
+        let mut silent = String::new(alloc);
+        for pulse in &self.renditions {
+            if pulse.is_silent(now, most) {
+                let name = &pulse.name;
+                write!(silent, "{name}\n")?;
+            }
+        }
+        if silent.is_empty() {
+            Ok(Health::Well)
+        } else {
+            Ok(Health::Silent(silent))
         }
     }
 
@@ -161,6 +181,24 @@ impl Counts {
             push_refused(text, counter.now(), refusal.name())?;
         }
         text.push_str("\n")
+    }
+}
+
+/// Returns counts of 0 for the renditions of these names.
+fn pulses(alloc: Global, names: &[Text]) -> Result<Vec<Pulse>, AllocError> {
+    let mut pulses = Vec::with_capacity(alloc, names.len())?;
+    for name in names {
+        pulses.push(Pulse::new(alloc, name.as_str())?)?;
+    }
+    Ok(pulses)
+}
+
+/// Returns the number of bytes of the playlist or the media of a reply.
+fn bytes_of(reply: &Reply) -> u64 {
+    match reply {
+        Reply::Text(page) => page.text().len() as u64,
+        Reply::Media(piece) => piece.bytes.len(),
+        _ => 0,
     }
 }
 

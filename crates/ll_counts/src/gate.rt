@@ -1,4 +1,5 @@
 //! The gate that answers pass before they are sent, and by which connections report what they get.
+use ll_item::Item;
 use ll_publish::Refusal;
 use ll_wire::Answer;
 
@@ -18,8 +19,14 @@ pub trait Gate {
     fn freed(&self, _channel: usize) {}
 
     /// Is called when a publisher's item for a channel was accepted, or was refused for a reason.
-    fn published(&self, _channel: usize, _refusal: Option<Refusal>) {}
+    fn published(&self, _channel: usize, _told: Result<&Item, Refusal>) {}
 
     /// Is called when the record of a channel was full, and is handed out.
     fn filled(&self, _channel: usize) {}
+
+    /// Is called when a publisher's connection begins to be served.
+    fn joined(&self) {}
+
+    /// Is called when such a connection has ended.
+    fn left(&self) {}
 }

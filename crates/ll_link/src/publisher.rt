@@ -26,6 +26,7 @@ use ll_device::{Link, write_all};
 use ll_hub::{Bell, HubFault, Ledgers, Pass, RoomFault, Sink};
 use ll_item::{Item, ItemFault, Payload, named};
 use ll_publish::{Feed, Line, Refusal, Success, reply_text};
+use ll_room::Stamp;
 use ll_settings::Settings;
 use ll_spool::Disk;
 use ll_verdict::PublishFault;
@@ -225,7 +226,7 @@ fn publish_item<L: Ledgers, C, G: Gate, K: Sink, D, B: Bell, R: Wait>(
     };
     match publish_to(service, pass, channel, settings, text, payload) {
         Ok((answer, _)) => {
-            service.gate.published(channel, refusal_in(&answer));
+            report(service, channel, &answer);
             Ok(answer)
         }
         Err(fault) => Err(fault),
@@ -283,11 +284,19 @@ fn publish_again<L: Ledgers, C, G: Gate, K: Sink, D, B: Bell, R: Wait>(
     Ok((second, Some(handed)))
 }
 
-/// Returns why an item was refused; `None` if it was accepted.
-fn refusal_in(answer: &Published) -> Option<Refusal> {
+/// Reports the answer to an item of the channel at place `channel` to the gate.
+fn report<L: Ledgers, C, G: Gate, K, D, B, R>(
+    service: &Service<'_, L, C, G, K, D, B, R>,
+    channel: usize,
+    answer: &Published,
+) {
     match answer {
-        Ok(_) => None,
-        Err(reason) => Some(*reason),
+        Ok(mark) => {
+            if let Stamp::Publish(item) = mark.stamp() {
+                service.gate.published(channel, Ok(item));
+            }
+        }
+        Err(reason) => service.gate.published(channel, Err(*reason)),
     }
 }
 

@@ -70,6 +70,11 @@ pub fn serve_link_within<
     let most = reads.min(READS);
     match role {
         Role::Player => player::serve(service, link, pass, most),
-        Role::Publisher => publisher::serve(service, link, pass, most),
+        Role::Publisher => {
+            service.gate.joined();
+            let served = publisher::serve(service, link, pass, most);
+            service.gate.left();
+            served
+        }
     }
 }

@@ -1,13 +1,15 @@
 //! A test of the numbers that an operator reads.
 use crate::answers::{SHORT, answer};
-use ll_counts::{Gate, Numbers};
+use ll_counts::{Gate, Health, Numbers};
 use ll_format::UtcTime;
+use ll_item::{Item, Payload};
 use ll_publish::Refusal;
 use ll_settings::Settings;
 use ll_verdict::PublishFault;
 use std::alloc::{AllocError, Global};
 use std::process::Abort;
 use std::test::Fail;
+use std::time::{Clock, Instant};
 
 /// What happens on a channel, an arrow, and the numbers of its line that aren't 0 then: each event, answer and refusal is counted once, under its own
 /// name.
@@ -74,39 +76,94 @@ fn numbers_have_their_names(rt: HostRuntime) -> Result<(), Fail> {
     Ok(())
 }
 
+/// The item that a start publishes again, if any, an arrow, and what is said of its channel then.
+const RESTORED: &str = " => hi
+init hi => hi
+part hi 1000000 - => well
+end hi => well";
+
+#[test]
+fn a_channel_is_well_by_its_last_parts(rt: HostRuntime) -> Result<(), Fail> {
+    for row in RESTORED.split('\n') {
+        check_health(&rt, rt.alloc(), row)?;
+    }
+    Ok(())
+}
+
+/// Compares what is said of a channel after the item of a row with what stands after the arrow.
+fn check_health(rt: &(impl Abort + Clock), alloc: Global, row: &str) -> Result<(), Fail> {
+    let (line, answer) = row.split_once(" => ").unwrap_or((row, "an arrow"));
+    let numbers = numbers(rt, alloc)?;
+    if let Some(item) = item(alloc, line) {
+        numbers.restored(0, &item);
+    }
+    let told = match numbers.health(alloc, "cam")? {
+        Health::Unknown => format!(in alloc; "unknown")?,
+        Health::Well => format!(in alloc; "well")?,
+        Health::Silent(names) => names,
+    };
+    assert!(rt;
+        told.as_str().trim_ascii_end() == answer,
+        "at {row}: {told}"
+    );
+    let other = numbers.health(alloc, "ca")?;
+    assert!(rt; matches!(other, Health::Unknown), "there is no channel ca");
+    Ok(())
+}
+
+/// Returns the item of this line, or `None` if it has none.
+fn item(alloc: Global, line: &str) -> Option<Item> {
+    let settings = Settings::read(alloc, SHORT).ok()?;
+    Item::read(alloc, &settings, line, &Payload::none()).ok()
+}
+
+/// Returns counts of 0 for one channel.
+fn numbers<R: Clock>(rt: &R, alloc: Global) -> Result<Numbers<'_, R>, Fail> {
+    let Ok(settings) = Settings::read(alloc, SHORT) else {
+        return Err(Fail::from(AllocError));
+    };
+    let channels = vec![in alloc; settings]?;
+    let start = Instant::now(rt)?;
+    Ok(Numbers::new(rt, alloc, start, &channels)?)
+}
+
 /// Compares the numbers after the event of a row with what stands after the arrow.
-fn check_row(rt: &impl Abort, alloc: Global, row: &str) -> Result<(), AllocError> {
+fn check_row(rt: &(impl Abort + Clock), alloc: Global, row: &str) -> Result<(), Fail> {
     let (event, answer) = row.split_once(" => ").unwrap_or((row, "an arrow"));
-    let told = told(alloc, event)?;
+    let told = told(rt, alloc, event)?;
     assert!(rt; told.as_str() == answer, "at {row}: {told}");
     Ok(())
 }
 
 /// Returns the numbers that aren't 0 once `event` has happened on a channel.
-fn told(alloc: Global, event: &str) -> Result<String, AllocError> {
+fn told(rt: &impl Clock, alloc: Global, event: &str) -> Result<String, Fail> {
     let mut told = String::new(alloc);
-    let Ok(settings) = Settings::read(alloc, SHORT) else {
-        return Ok(told);
-    };
-    let channels = vec![in alloc; settings]?;
-    let numbers = Numbers::new(alloc, &channels)?;
+    let numbers = numbers(rt, alloc)?;
     happen(alloc, &numbers, event)?;
     push_told(alloc, &numbers, &mut told)?;
     Ok(told)
 }
 
 /// Makes `event` happen on the only channel.
-fn happen(alloc: Global, numbers: &Numbers, event: &str) -> Result<(), AllocError> {
+fn happen<R: Clock>(
+    alloc: Global,
+    numbers: &Numbers<'_, R>,
+    event: &str,
+) -> Result<(), AllocError> {
     match event {
         "held" => numbers.held(0),
         "freed" => {
             numbers.held(0);
             numbers.freed(0);
         }
-        "item" => numbers.published(0, None),
+        "item" => {
+            if let Some(item) = item(alloc, "part hi 1000000 -") {
+                numbers.published(0, Ok(&item));
+            }
+        }
         "full" => numbers.filled(0),
         _ => match refusal(event) {
-            Some(refusal) => numbers.published(0, Some(refusal)),
+            Some(refusal) => numbers.published(0, Err(refusal)),
             None => {
                 if let Some(answer) = answer(alloc, event)? {
                     numbers.answered(0, &answer);
@@ -129,7 +186,11 @@ fn refusal(event: &str) -> Option<Refusal> {
 }
 
 /// Appends the numbers of the only channel that aren't 0.
-fn push_told(alloc: Global, numbers: &Numbers, told: &mut String) -> Result<(), AllocError> {
+fn push_told<R>(
+    alloc: Global,
+    numbers: &Numbers<'_, R>,
+    told: &mut String,
+) -> Result<(), AllocError> {
     let Some(time) = UtcTime::at(0) else {
         return Ok(());
     };
