@@ -51,6 +51,13 @@ impl Hosted {
         &self.channels
     }
 
+    /// Returns the digest of each channel's secret, if it has one, in the order of the channels.
+    pub fn secrets(&self) -> &[Option<Digest>]
+        ensures { result.now ≡ self.now.secrets }
+    {
+        &self.secrets
+    }
+
     /// Returns the channels, and the digests of their secrets, in the same order.
     pub fn into_parts(self) -> (Vec<Settings>, Vec<Option<Digest>>)
         ensures channels { result.0.items ≡ self.channels }

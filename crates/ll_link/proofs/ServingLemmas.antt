@@ -9,7 +9,6 @@ use Rattle.ll_device.proofs.WriteLemmas.{AppendsPrefix-after}
 use Rattle.ll_device.specs.Inward.{Inward, looked_at}
 use Rattle.ll_device.specs.Written.{AppendsPrefix}
 use Rattle.ll_hub.specs.Passes.{PassValue}
-use Rattle.ll_settings.specs.Settings.{Configuration}
 use Rattle.ll_publish.proofs.StreamLaws.{none_is_left, whole_streams}
 use Rattle.ll_publish.specs.Line.{Line}
 use Rattle.ll_publish.specs.Lines.{FeedValue, fresh, front, lines, lines_in, with_bytes}
@@ -18,8 +17,8 @@ use Rattle.ll_publish.specs.Refusals.{reply_line}
 use Rattle.ll_publish.specs.declared.refusal.Refusal.{Refusal}
 use Rattle.ll_publish.specs.declared.success.Success.{Success}
 use Rattle.ll_link.proofs.ReadLemmas.{read-no_more, read-then}
-use Rattle.ll_link.specs.Heard.{heard}
-use Rattle.ll_link.specs.Publishing.{AreRight, Exchange, IsCutOff, IsReplyTo, IsServed, after_exchange, heard_all, lines_of, replies_of}
+use Rattle.ll_link.specs.Doors.{Origin}
+use Rattle.ll_link.specs.Publishing.{AreRight, Caller, Exchange, IsCutOff, IsServed, IsTold, after_all, after_exchange, caller_after, lines_of, newcomer, replies_of}
 use Rattle.ll_link.specs.Serving.{IsBroken, IsDrained, IsServing}
 
 -- one call more
@@ -37,37 +36,37 @@ replies-more es line reply =
 lines-more : (es : List Exchange) (line : Line) (reply : Result Success Refusal) → lines_of (es ++ exchange line reply ∷ []) ≡ lines_of es ++ line ∷ []
 lines-more es line reply = map-append (λ (e : Exchange). e.line) es (exchange line reply ∷ [])
 
--- the pass has heard one exchange more
-heard-more : (channels : List Configuration) (start : PassValue) (es : List Exchange) (line : Line) (reply : Result Success Refusal)
-    → heard_all channels start (es ++ exchange line reply ∷ []) ≡ heard channels line reply (heard_all channels start es)
-heard-more channels start es line reply = fold-append (after_exchange channels) start es (exchange line reply ∷ [])
+-- the connection remembers one exchange more
+remembered-more : (o : Origin) (start : Caller) (es : List Exchange) (line : Line) (reply : Result Success Refusal)
+    → after_all o start (es ++ exchange line reply ∷ []) ≡ caller_after o line reply (after_all o start es)
+remembered-more o start es line reply = fold-append (after_exchange o) start es (exchange line reply ∷ [])
 
 -- a line with an allowed answer, after the others
-right-more : (channels : List Configuration) (start : PassValue) (es : List Exchange) (line : Line) (reply : Result Success Refusal)
-    → AreRight channels start es → IsReplyTo channels (heard_all channels start es) line reply → AreRight channels start (es ++ exchange line reply ∷ [])
-right-more channels start [] line reply all one = (one, tt)
-right-more channels start (e ∷ more) line reply all one = (all.0, right-more channels (after_exchange channels start e) more line reply all.1 one)
+right-more : (o : Origin) (start : Caller) (es : List Exchange) (line : Line) (reply : Result Success Refusal)
+    → AreRight o start es → IsTold o (after_all o start es) line reply → AreRight o start (es ++ exchange line reply ∷ [])
+right-more o start [] line reply all one = (one, tt)
+right-more o start (e ∷ more) line reply all one = (all.0, right-more o (after_exchange o start e) more line reply all.1 one)
 
 -- nothing came yet
-pub serving-none : (channels : List Configuration) (feed : FeedValue) (start : PassValue) (base : Option (List ℕ)) → feed ≡ fresh
-    → IsServing channels [] feed start start base base
-serving-none channels feed start base e = record {
+pub serving-none : (o : Origin) (feed : FeedValue) (start : Caller) (base : Option (List ℕ)) → feed ≡ fresh
+    → IsServing o [] feed start start base base
+serving-none o feed start base e = record {
   calls = [];
   bytes = refl;
   kept = sym e;
   exchanges = [];
   given = refl;
   right = tt;
-  passed = refl;
+  remembered = refl;
   sent = Appends-nil base;
 }
 
 -- a line is answered
-pub serving-more : (channels : List Configuration) (taken : List ℕ) (feed after : FeedValue) (start pass now : PassValue) (base mid written : Option (List ℕ)) (line : Line)
+pub serving-more : (o : Origin) (taken : List ℕ) (feed after : FeedValue) (start caller now : Caller) (base mid written : Option (List ℕ)) (line : Line)
     (reply : Result Success Refusal)
-    → IsServing channels taken feed start pass base mid → (front feed).0 ≡ Some line → after ≡ (front feed).1 → IsReplyTo channels pass line reply
-    → now ≡ heard channels line reply pass → Appends mid written (reply_line reply) → IsServing channels taken after start now base written
-serving-more channels taken feed after start pass now base mid written line reply s told rest right passed sent =
+    → IsServing o taken feed start caller base mid → (front feed).0 ≡ Some line → after ≡ (front feed).1 → IsTold o caller line reply
+    → now ≡ caller_after o line reply caller → Appends mid written (reply_line reply) → IsServing o taken after start now base written
+serving-more o taken feed after start caller now base mid written line reply s told rest right remembered sent =
     let more = past-more s.calls Next in
     record {
       calls = s.calls ++ Next ∷ [];
@@ -77,15 +76,15 @@ serving-more channels taken feed after start pass now base mid written line repl
       given =
           ap (λ p. p.given) more ∙ ap (and_line (past s.calls).given) (ap (λ f. (front f).0) s.kept ∙ told) ∙ ap (λ ls. ls ++ line ∷ []) s.given
           ∙ sym (lines-more s.exchanges line reply);
-      right = right-more channels start s.exchanges line reply s.right (subst (λ p. IsReplyTo channels p line reply) s.passed right);
-      passed = passed ∙ ap (heard channels line reply) s.passed ∙ sym (heard-more channels start s.exchanges line reply);
+      right = right-more o start s.exchanges line reply s.right (subst (λ c. IsTold o c line reply) s.remembered right);
+      remembered = remembered ∙ ap (caller_after o line reply) s.remembered ∙ sym (remembered-more o start s.exchanges line reply);
       sent = subst (Appends base written) (sym (replies-more s.exchanges line reply)) (Appends-trans base mid written (replies_of s.exchanges) (reply_line reply) s.sent sent);
     }
 
 -- a line without an answer, because the hub ended the connection
-pub broken-untold : (channels : List Configuration) (taken : List ℕ) (feed : FeedValue) (start pass now : PassValue) (base written : Option (List ℕ)) (line : Line)
-    → IsServing channels taken feed start pass base written → (front feed).0 ≡ Some line → now ≡ pass → IsBroken channels taken start now base written
-broken-untold channels taken feed start pass now base written line s told same =
+pub broken-untold : (o : Origin) (taken : List ℕ) (feed : FeedValue) (start caller : Caller) (now : PassValue) (base written : Option (List ℕ)) (line : Line)
+    → IsServing o taken feed start caller base written → (front feed).0 ≡ Some line → now ≡ caller.pass → IsBroken o taken start now base written
+broken-untold o taken feed start caller now base written line s told same =
     let more = past-more s.calls Next in
     record {
       calls = s.calls ++ Next ∷ [];
@@ -94,16 +93,16 @@ broken-untold channels taken feed start pass now base written line s told same =
       later = line ∷ [];
       given = ap (λ p. p.given) more ∙ ap (and_line (past s.calls).given) (ap (λ f. (front f).0) s.kept ∙ told) ∙ ap (λ ls. ls ++ line ∷ []) s.given;
       right = s.right;
-      passed = same ∙ s.passed;
+      passed = same ∙ ap (λ (c : Caller). c.pass) s.remembered;
       sent = (replies_of s.exchanges, [], sym (append-nil (replies_of s.exchanges)), s.sent);
     }
 
 -- a line of whose answer a prefix was sent
-pub broken-told : (channels : List Configuration) (taken : List ℕ) (feed : FeedValue) (start pass now : PassValue) (base mid written : Option (List ℕ)) (line : Line)
+pub broken-told : (o : Origin) (taken : List ℕ) (feed : FeedValue) (start caller : Caller) (now : PassValue) (base mid written : Option (List ℕ)) (line : Line)
     (reply : Result Success Refusal)
-    → IsServing channels taken feed start pass base mid → (front feed).0 ≡ Some line → IsReplyTo channels pass line reply → now ≡ heard channels line reply pass
-    → AppendsPrefix mid written (reply_line reply) → IsBroken channels taken start now base written
-broken-told channels taken feed start pass now base mid written line reply s told right passed sent =
+    → IsServing o taken feed start caller base mid → (front feed).0 ≡ Some line → IsTold o caller line reply → now ≡ (caller_after o line reply caller).pass
+    → AppendsPrefix mid written (reply_line reply) → IsBroken o taken start now base written
+broken-told o taken feed start caller now base mid written line reply s told right passed sent =
     let more = past-more s.calls Next in
     record {
       calls = s.calls ++ Next ∷ [];
@@ -113,17 +112,19 @@ broken-told channels taken feed start pass now base mid written line reply s tol
       given =
           ap (λ p. p.given) more ∙ ap (and_line (past s.calls).given) (ap (λ f. (front f).0) s.kept ∙ told) ∙ ap (λ ls. ls ++ line ∷ []) s.given
           ∙ sym (lines-more s.exchanges line reply) ∙ sym (append-nil (lines_of (s.exchanges ++ exchange line reply ∷ [])));
-      right = right-more channels start s.exchanges line reply s.right (subst (λ p. IsReplyTo channels p line reply) s.passed right);
-      passed = passed ∙ ap (heard channels line reply) s.passed ∙ sym (heard-more channels start s.exchanges line reply);
+      right = right-more o start s.exchanges line reply s.right (subst (λ c. IsTold o c line reply) s.remembered right);
+      passed =
+          passed ∙ ap (λ (c : Caller). (caller_after o line reply c).pass) s.remembered
+          ∙ ap (λ (c : Caller). c.pass) (sym (remembered-more o start s.exchanges line reply));
       sent =
           AppendsPrefix-after base mid written (replies_of s.exchanges) (reply_line reply) (replies_of (s.exchanges ++ exchange line reply ∷ []))
           (replies-more s.exchanges line reply) s.sent sent;
     }
 
 -- no whole line is left
-pub serving-drained : (channels : List Configuration) (taken : List ℕ) (feed after : FeedValue) (start pass : PassValue) (base written : Option (List ℕ))
-    → IsServing channels taken feed start pass base written → (front feed).0 ≡ None → after ≡ (front feed).1 → IsDrained channels taken after start pass base written
-serving-drained channels taken feed after start pass base written s told rest =
+pub serving-drained : (o : Origin) (taken : List ℕ) (feed after : FeedValue) (start caller : Caller) (base written : Option (List ℕ))
+    → IsServing o taken feed start caller base written → (front feed).0 ≡ None → after ≡ (front feed).1 → IsDrained o taken after start caller base written
+serving-drained o taken feed after start caller base written s told rest =
     let more = past-more s.calls Next in
     record {
       serving = record {
@@ -133,16 +134,16 @@ serving-drained channels taken feed after start pass base written s told rest =
         exchanges = s.exchanges;
         given = ap (λ p. p.given) more ∙ ap (and_line (past s.calls).given) (ap (λ f. (front f).0) s.kept ∙ told) ∙ s.given;
         right = s.right;
-        passed = s.passed;
+        remembered = s.remembered;
         sent = s.sent;
       };
       none = ap lines_in rest ∙ none_is_left feed told;
     }
 
 -- more bytes came
-pub serving-fed : (channels : List Configuration) (taken piece : List ℕ) (feed after : FeedValue) (start pass : PassValue) (base written : Option (List ℕ))
-    → IsServing channels taken feed start pass base written → after ≡ with_bytes feed piece → IsServing channels (taken ++ piece) after start pass base written
-serving-fed channels taken piece feed after start pass base written s fed =
+pub serving-fed : (o : Origin) (taken piece : List ℕ) (feed after : FeedValue) (start caller : Caller) (base written : Option (List ℕ))
+    → IsServing o taken feed start caller base written → after ≡ with_bytes feed piece → IsServing o (taken ++ piece) after start caller base written
+serving-fed o taken piece feed after start caller base written s fed =
     let more = past-more s.calls (Take piece) in
     record {
       calls = s.calls ++ Take piece ∷ [];
@@ -151,29 +152,29 @@ serving-fed channels taken piece feed after start pass base written s fed =
       exchanges = s.exchanges;
       given = ap (λ p. p.given) more ∙ s.given;
       right = s.right;
-      passed = s.passed;
+      remembered = s.remembered;
       sent = s.sent;
     }
 
 -- if nothing was written meanwhile
-pub drained-at : (channels : List Configuration) (taken : List ℕ) (feed : FeedValue) (start pass : PassValue) (base mid written : Option (List ℕ))
-    → IsDrained channels taken feed start pass base mid → written ≡ mid → IsDrained channels taken feed start pass base written
-drained-at channels taken feed start pass base mid written d same = subst (IsDrained channels taken feed start pass base) (sym same) d
+pub drained-at : (o : Origin) (taken : List ℕ) (feed : FeedValue) (start caller : Caller) (base mid written : Option (List ℕ))
+    → IsDrained o taken feed start caller base mid → written ≡ mid → IsDrained o taken feed start caller base written
+drained-at o taken feed start caller base mid written d same = subst (IsDrained o taken feed start caller base) (sym same) d
 
-pub drained-none : (channels : List Configuration) (feed : FeedValue) (start : PassValue) (base : Option (List ℕ)) → feed ≡ fresh → IsDrained channels [] feed start start base base
-drained-none channels feed start base e = record { serving = serving-none channels feed start base e; none = ap lines_in e }
+pub drained-none : (o : Origin) (feed : FeedValue) (start : Caller) (base : Option (List ℕ)) → feed ≡ fresh → IsDrained o [] feed start start base base
+drained-none o feed start base e = record { serving = serving-none o feed start base e; none = ap lines_in e }
 
 pub on-err : {A E : Type 0} {P : Type 0} (r : Result A E) → P → OnErr r P
 on-err (Ok x) p = tt
 on-err (Err e) p = p
 
 -- the same of a call that fails
-pub broken-by : {A E : Type 0} (r : Result A E) (channels : List Configuration) (before feed : FeedValue) (old pass now : PassValue) (first mid written : Option (List ℕ))
-    → ((taken : List ℕ) (start : PassValue) (base : Option (List ℕ)) → IsServing channels taken before start old base first → IsServing channels taken feed start pass base mid)
-    → ((taken : List ℕ) (start : PassValue) (base : Option (List ℕ)) → IsServing channels taken feed start pass base mid → IsBroken channels taken start now base written)
-    → OnErr r ((taken : List ℕ) (start : PassValue) (base : Option (List ℕ)) → IsServing channels taken before start old base first → IsBroken channels taken start now base written)
-broken-by (Ok x) channels before feed old pass now first mid written so_far breaks = tt
-broken-by (Err e) channels before feed old pass now first mid written so_far breaks = λ taken start base s. breaks taken start base (so_far taken start base s)
+pub broken-by : {A E : Type 0} (r : Result A E) (o : Origin) (before feed : FeedValue) (old caller : Caller) (now : PassValue) (first mid written : Option (List ℕ))
+    → ((taken : List ℕ) (start : Caller) (base : Option (List ℕ)) → IsServing o taken before start old base first → IsServing o taken feed start caller base mid)
+    → ((taken : List ℕ) (start : Caller) (base : Option (List ℕ)) → IsServing o taken feed start caller base mid → IsBroken o taken start now base written)
+    → OnErr r ((taken : List ℕ) (start : Caller) (base : Option (List ℕ)) → IsServing o taken before start old base first → IsBroken o taken start now base written)
+broken-by (Ok x) o before feed old caller now first mid written so_far breaks = tt
+broken-by (Err e) o before feed old caller now first mid written so_far breaks = λ taken start base s. breaks taken start base (so_far taken start base s)
 
 -- ---- to the end of a connection
 
@@ -185,36 +186,36 @@ given_first calls taken more is = ap (λ bytes. lines (bytes ++ more)) (sym is) 
 with_none : (feed : FeedValue) → with_bytes feed [] ≡ feed
 with_none feed = ap (λ bytes. record feed { unread = bytes }) (append-nil feed.unread)
 
-drained-lines : (channels : List Configuration) (taken : List ℕ) (feed : FeedValue) (start pass : PassValue) (base written : Option (List ℕ))
-    (d : IsDrained channels taken feed start pass base written)
+drained-lines : (o : Origin) (taken : List ℕ) (feed : FeedValue) (start caller : Caller) (base written : Option (List ℕ))
+    (d : IsDrained o taken feed start caller base written)
     → lines taken ≡ lines_of d.serving.exchanges
-drained-lines channels taken feed start pass base written d =
+drained-lines o taken feed start caller base written d =
     let s = d.serving in
     ap lines (sym (append-nil taken)) ∙ given_first s.calls taken [] s.bytes
     ∙ ap (λ ls. (past s.calls).given ++ ls) (ap lines_in (with_none (past s.calls).feed ∙ s.kept) ∙ d.none)
     ∙ append-nil (past s.calls).given ∙ s.given
 
-pub served : (channels : List Configuration) (before mid after : Inward) (n more : ℕ) (taken : List ℕ) (feed : FeedValue) (start pass : PassValue)
+pub served : (o : Origin) (before mid after : Inward) (n more : ℕ) (taken : List ℕ) (feed : FeedValue) (start : PassValue) (caller : Caller)
     (base written : Option (List ℕ))
-    → mid ≡ looked_at n 0 taken before → after ≡ looked_at more 1 [] mid → IsDrained channels taken feed start pass base written
-    → IsServed channels start pass before after base written
-served channels before mid after n more taken feed start pass base written p q d = record {
+    → mid ≡ looked_at n 0 taken before → after ≡ looked_at more 1 [] mid → IsDrained o taken feed (newcomer start) caller base written
+    → IsServed o start caller.pass before after base written
+served o before mid after n more taken feed start caller base written p q d = record {
   reads = n + more;
   came = taken;
   read = read-no_more before mid after n more 1 taken p q;
   exchanges = d.serving.exchanges;
-  all = drained-lines channels taken feed start pass base written d;
+  all = drained-lines o taken feed (newcomer start) caller base written d;
   right = d.serving.right;
-  passed = d.serving.passed;
+  passed = ap (λ (c : Caller). c.pass) d.serving.remembered;
   sent = d.serving.sent;
 }
 
 -- it was cut off after more bytes came, of which no line was given
-pub cut-reading : (channels : List Configuration) (before mid after : Inward) (n more : ℕ) (taken piece : List ℕ) (feed : FeedValue) (start pass : PassValue)
+pub cut-reading : (o : Origin) (before mid after : Inward) (n more : ℕ) (taken piece : List ℕ) (feed : FeedValue) (start : PassValue) (caller : Caller)
     (base written : Option (List ℕ))
-    → mid ≡ looked_at n 0 taken before → after ≡ looked_at more 0 piece mid → IsDrained channels taken feed start pass base written
-    → IsCutOff channels start pass before after base written
-cut-reading channels before mid after n more taken piece feed start pass base written p q d =
+    → mid ≡ looked_at n 0 taken before → after ≡ looked_at more 0 piece mid → IsDrained o taken feed (newcomer start) caller base written
+    → IsCutOff o start caller.pass before after base written
+cut-reading o before mid after n more taken piece feed start caller base written p q d =
     let s = d.serving in
     record {
       reads = n + more;
@@ -224,16 +225,16 @@ cut-reading channels before mid after n more taken piece feed start pass base wr
       later = lines_in (with_bytes (past s.calls).feed piece);
       first = given_first s.calls taken piece s.bytes ∙ ap (λ ls. ls ++ lines_in (with_bytes (past s.calls).feed piece)) s.given;
       right = s.right;
-      passed = s.passed;
+      passed = ap (λ (c : Caller). c.pass) s.remembered;
       sent = (replies_of s.exchanges, [], sym (append-nil (replies_of s.exchanges)), s.sent);
     }
 
 -- it was cut off while its lines were answered
-pub cut-answering : (channels : List Configuration) (before mid after : Inward) (n more : ℕ) (taken piece : List ℕ) (start pass : PassValue)
+pub cut-answering : (o : Origin) (before mid after : Inward) (n more : ℕ) (taken piece : List ℕ) (start pass : PassValue)
     (base written : Option (List ℕ))
-    → mid ≡ looked_at n 0 taken before → after ≡ looked_at more 0 piece mid → IsBroken channels (taken ++ piece) start pass base written
-    → IsCutOff channels start pass before after base written
-cut-answering channels before mid after n more taken piece start pass base written p q b =
+    → mid ≡ looked_at n 0 taken before → after ≡ looked_at more 0 piece mid → IsBroken o (taken ++ piece) (newcomer start) pass base written
+    → IsCutOff o start pass before after base written
+cut-answering o before mid after n more taken piece start pass base written p q b =
     let left = lines_in (with_bytes (past b.calls).feed []) in
     record {
       reads = n + more;

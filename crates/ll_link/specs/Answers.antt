@@ -148,6 +148,7 @@ abbrev pub IsSuccess : List Configuration → List ℕ → says.Line → Success
 IsSuccess channels passed line (success.Accepted count) = (mark : StampedValue ℕ) × (mark.value ≡ count) × IsAnnounced channels passed line mark
 IsSuccess channels passed line (success.NotKept count) = (mark : StampedValue ℕ) × (mark.value ≡ count) × IsAnnounced channels passed line mark
 IsSuccess channels passed line (success.Standing s) = IsPlaceAsked channels passed line s
+IsSuccess channels passed line success.Opened = ⊥
 
 -- why a line is refused; a question for a place only for what is found before any room is asked
 abbrev pub IsLineReason : List Configuration → List ℕ → says.Line → Refusal → Type 0

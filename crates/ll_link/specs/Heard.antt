@@ -6,7 +6,7 @@ use Rattle.ll_settings.specs.Settings.{Configuration}
 use Rattle.ll_publish.specs.Line as says
 use Rattle.ll_publish.specs.declared.refusal.Refusal.{Refusal}
 use Rattle.ll_publish.specs.declared.success.Success.{Success}
-use Rattle.ll_publish.specs.declared.success.Success.TheVariants.{Accepted, NotKept, Standing}
+use Rattle.ll_publish.specs.declared.success.Success.TheVariants.{Accepted, NotKept, Standing, Opened}
 use Rattle.ll_room.specs.StampedValue.{StampedValue}
 
 -- the pass after this answer to a line for the channel at `place`: an item that was accepted is seen and counted once, kept or not; of a place the
@@ -15,6 +15,7 @@ abbrev pub heard_at : ℕ → Result Success Refusal → PassValue → PassValue
 heard_at place (Ok (Accepted count)) pass = record pass { seen = noted pass.seen place count; publishes = pass.publishes + 1 }
 heard_at place (Ok (NotKept count)) pass = record pass { seen = noted pass.seen place count; publishes = pass.publishes + 1 }
 heard_at place (Ok (Standing s)) pass = record pass { seen = noted pass.seen place s.count }
+heard_at place (Ok Opened) pass = pass
 heard_at place (Err reason) pass = pass
 
 -- the same, in the channel that was found

@@ -4,7 +4,7 @@ use Rattle.ll_link.specs.declared.keeping.Token.{Token}
 use Rattle.ll_link.specs.declared.keeping.Token.TheVariants as token
 use Rattle.ll_publish.specs.declared.refusal.Refusal.{Refusal}
 use Rattle.ll_publish.specs.declared.success.Success.{Success}
-use Rattle.ll_publish.specs.declared.success.Success.TheVariants.{Accepted, NotKept, Standing}
+use Rattle.ll_publish.specs.declared.success.Success.TheVariants.{Accepted, NotKept, Standing, Opened}
 use Rattle.ll_room.specs.StampedValue.{StampedValue}
 
 -- the answer to the line of an item: that of its channel, but an accepted item may not have been kept
@@ -22,4 +22,5 @@ abbrev pub HasToken : Result Success Refusal → Option Token → Type 0
 HasToken (Ok (Accepted count)) t = IsTokenOf count t
 HasToken (Ok (NotKept count)) t = ⊤
 HasToken (Ok (Standing s)) t = ⊤
+HasToken (Ok Opened) t = ⊤
 HasToken (Err reason) t = ⊤

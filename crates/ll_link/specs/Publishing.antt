@@ -1,5 +1,5 @@
 -- A publisher's connection: the lines that came on it, and the answer to each.
-use Rattle.std.specs.Prelude.{◌≡◌, ℕ, ⊤, List, [], ◌∷◌, ◌++◌, Option, Some, Result, Err, IfErr, IfOk, fold, map, flat_map}
+use Rattle.std.specs.Prelude.{◌≡◌, ℕ, ⊤, List, [], ◌∷◌, ◌++◌, Option, Some, Result, Ok, Err, IfErr, IfOk, fold, map, flat_map}
 use Rattle.std.specs.Io.KnownBytes.{Appends}
 use Rattle.ll_device.specs.Inward.{Inward, looked_at}
 use Rattle.ll_device.specs.Written.{AppendsPrefix}
@@ -10,10 +10,13 @@ use Rattle.ll_publish.specs.Lines.{lines}
 use Rattle.ll_publish.specs.Refusals.{reply_line}
 use Rattle.ll_publish.specs.declared.refusal.Refusal.{Refusal}
 use Rattle.ll_publish.specs.declared.success.Success.{Success}
+use Rattle.ll_publish.specs.declared.refusal.Refusal.TheVariants.{NotAllowed}
+use Rattle.ll_publish.specs.declared.success.Success.TheVariants.{Opened}
 use Rattle.ll_link.specs.Answers.{IsLineReason, IsSuccess, refused_before}
+use Rattle.ll_link.specs.Doors.{Origin, Passage, Passes, Opens, Stays, passage}
 use Rattle.ll_link.specs.Heard.{heard}
 
--- The allowed answers to a line: the first reason that refuses it before any room is asked, if there is one; a number, if the channel of
+-- The allowed answers to a line that is read: the first reason that refuses it before any room is asked, if there is one; a number, if the channel of
 -- its name accepted its item as the one of that number, which is more than the pass had seen of that channel; the place that it asks for,
 -- if that channel has no fewer items than the pass had seen; or the first rule of that channel that refuses its item, if it has at least as
 -- many items as the pass had seen. Memory is allowed for an item in place of either.
@@ -21,6 +24,37 @@ pub record IsReplyTo (channels : List Configuration) (pass : PassValue) (line : 
   pub refused : (reason : Refusal) → refused_before channels line ≡ Some reason → reply ≡ Err reason
   pub told : IfOk reply (IsSuccess channels pass.seen line)
   pub ruled : IfErr reply (IsLineReason channels pass.seen line)
+
+-- What a connection remembers of the lines before: what its pass has seen and counted, and the places of the channels whose secret it gave.
+pub record Caller : Type 0 where
+  pub pass : PassValue
+  pub opened : List ℕ
+
+abbrev pub caller : PassValue → List ℕ → Caller
+caller pass opened = record { pass = pass; opened = opened }
+
+-- no line has come
+abbrev pub newcomer : PassValue → Caller
+newcomer pass = caller pass []
+
+-- the allowed answer to a line, by what becomes of it
+abbrev pub IsToldBy : Passage → Origin → Caller → Line → Result Success Refusal → Type 0
+IsToldBy Passes o caller line reply = IsReplyTo o.channels caller.pass line reply
+IsToldBy (Opens place) o caller line reply = reply ≡ Ok Opened
+IsToldBy (Stays place) o caller line reply = reply ≡ Err NotAllowed
+
+-- the allowed answer to a line on a connection
+abbrev pub IsTold : Origin → Caller → Line → Result Success Refusal → Type 0
+IsTold o caller line reply = IsToldBy (passage o caller.opened line) o caller line reply
+
+-- what the connection remembers after this answer to a line
+abbrev pub caller_by : Passage → Origin → Line → Result Success Refusal → Caller → Caller
+caller_by Passes o line reply caller = record caller { pass = heard o.channels line reply caller.pass }
+caller_by (Opens place) o line reply caller = record caller { opened = caller.opened ++ place ∷ [] }
+caller_by (Stays place) o line reply caller = caller
+
+abbrev pub caller_after : Origin → Line → Result Success Refusal → Caller → Caller
+caller_after o line reply caller = caller_by (passage o caller.opened line) o line reply caller
 
 -- a line, and its answer
 pub record Exchange : Type 0 where
@@ -33,39 +67,39 @@ lines_of exchanges = map (λ e. e.line) exchanges
 abbrev pub replies_of : List Exchange → List ℕ
 replies_of exchanges = flat_map (λ e. reply_line e.reply) exchanges
 
--- the pass of the connection after one exchange, and after several in order
-abbrev pub after_exchange : List Configuration → PassValue → Exchange → PassValue
-after_exchange channels pass e = heard channels e.line e.reply pass
+-- what the connection remembers after one exchange, and after several in order
+abbrev pub after_exchange : Origin → Caller → Exchange → Caller
+after_exchange o caller e = caller_after o e.line e.reply caller
 
-abbrev pub heard_all : List Configuration → PassValue → List Exchange → PassValue
-heard_all channels pass exchanges = fold (after_exchange channels) pass exchanges
+abbrev pub after_all : Origin → Caller → List Exchange → Caller
+after_all o caller exchanges = fold (after_exchange o) caller exchanges
 
 -- each line got an allowed answer, after those before it
-abbrev pub AreRight : List Configuration → PassValue → List Exchange → Type 0
-AreRight channels pass [] = ⊤
-AreRight channels pass (e ∷ more) = IsReplyTo channels pass e.line e.reply × AreRight channels (after_exchange channels pass e) more
+abbrev pub AreRight : Origin → Caller → List Exchange → Type 0
+AreRight o caller [] = ⊤
+AreRight o caller (e ∷ more) = IsTold o caller e.line e.reply × AreRight o (after_exchange o caller e) more
 
 -- The other end has ended the connection. Each line of the bytes that came was answered once, in their order; these answers were sent, and
 -- nothing else. The pass has seen and counted exactly what they say.
-pub record IsServed (channels : List Configuration) (start pass : PassValue) (before after : Inward) (base written : Option (List ℕ)) : Type 0 where
+pub record IsServed (o : Origin) (start pass : PassValue) (before after : Inward) (base written : Option (List ℕ)) : Type 0 where
   pub reads : ℕ
   pub came : List ℕ
   pub read : after ≡ looked_at reads 1 came before
   pub exchanges : List Exchange
   pub all : lines came ≡ lines_of exchanges
-  pub right : AreRight channels start exchanges
-  pub passed : pass ≡ heard_all channels start exchanges
+  pub right : AreRight o (newcomer start) exchanges
+  pub passed : pass ≡ (after_all o (newcomer start) exchanges).pass
   pub sent : Appends base written (replies_of exchanges)
 
 -- The connection was cut off. The first lines of the bytes that came were answered once each, in their order; a prefix of these answers was
 -- sent, and nothing else. The pass has seen and counted exactly what they say.
-pub record IsCutOff (channels : List Configuration) (start pass : PassValue) (before after : Inward) (base written : Option (List ℕ)) : Type 0 where
+pub record IsCutOff (o : Origin) (start pass : PassValue) (before after : Inward) (base written : Option (List ℕ)) : Type 0 where
   pub reads : ℕ
   pub came : List ℕ
   pub read : after ≡ looked_at reads 0 came before
   pub exchanges : List Exchange
   pub later : List Line
   pub first : lines came ≡ lines_of exchanges ++ later
-  pub right : AreRight channels start exchanges
-  pub passed : pass ≡ heard_all channels start exchanges
+  pub right : AreRight o (newcomer start) exchanges
+  pub passed : pass ≡ (after_all o (newcomer start) exchanges).pass
   pub sent : AppendsPrefix base written (replies_of exchanges)

@@ -1,9 +1,8 @@
 //! What becomes of a publisher's line at the door of its channel.
-ghost use Rattle.std.specs.Prelude.{◌≡◌, Decides, MatchOption, None, Option, Some, List, ℕ};
+ghost use Rattle.std.specs.Prelude.{◌≡◌, Some, option_map};
 ghost use Rattle.ll_link.specs.Doors as spec;
-ghost use Rattle.ll_link.specs.Doors.{origin, passage_at, passage_by, secret_at};
+ghost use Rattle.ll_link.specs.Doors.{origin, passage_at, passage_by};
 ghost use Rattle.ll_link.specs.Passages.{passage_of};
-ghost use Rattle.ll_door.specs.Doors.{secret_in as given_in};
 ghost use Rattle.ll_publish.specs.Meaning.{meant};
 ghost use Rattle.ll_settings.specs.Channels.{channel_of_name};
 

@@ -4,6 +4,7 @@
 mod answering;
 mod asking;
 mod connection;
+mod door;
 mod fault;
 mod held;
 mod keeping;

@@ -14,10 +14,12 @@ ghost use Rattle.ll_hub.specs.Passes.{PassValue};
 ghost use Rattle.ll_link.specs.Faults.{IsOwn, IsTrue};
 ghost use Rattle.ll_link.specs.Heard.{heard, heard_at, heard_in, unstamped};
 ghost use Rattle.ll_link.specs.Kept.{HasToken};
-ghost use Rattle.ll_link.specs.Publishing.{IsCutOff, IsReplyTo, IsServed};
+ghost use Rattle.ll_link.specs.Doors.{origin};
+ghost use Rattle.ll_link.specs.Publishing.{Caller, IsCutOff, IsReplyTo, IsServed, IsTold, caller, caller_after};
 ghost use Rattle.ll_link.specs.Reads.{IsReadThrough, IsReadWithin};
 ghost use Rattle.ll_link.specs.Serving.{IsBroken, IsDrained, IsServing};
 
+use crate::door::Passage;
 use crate::fault::LinkFault;
 use crate::keeping::{Published, Token, Told, settle, settle_in};
 use crate::service::{HandedOut, Service};
@@ -47,10 +49,11 @@ pub(crate) fn serve<L: Ledgers, P: Link, C, G: Gate, K: Sink, D: Disk, B: Bell, 
     ensures faults { IsTrue result (P.failures link.old) (P.failures link.new) }
     ensures few { IsReadWithin (P.inward link.old) (P.inward link.new) reads }
     ensures endless { IsErrOf result LinkFault.Endless → IsReadThrough (P.inward link.old) (P.inward link.new) reads }
-    ensures served { OnOk result (IsServed service.now.hub.now pass.old pass.new (P.inward link.old) (P.inward link.new) (P.written link.old) (P.written link.new)) }
-    ensures cut_off { OnErr result (IsCutOff service.now.hub.now pass.old pass.new (P.inward link.old) (P.inward link.new) (P.written link.old) (P.written link.new)) }
+    ensures served { OnOk result (IsServed (origin service.now.hub.now service.now.secrets.now) pass.old pass.new (P.inward link.old) (P.inward link.new) (P.written link.old) (P.written link.new)) }
+    ensures cut_off { OnErr result (IsCutOff (origin service.now.hub.now service.now.secrets.now) pass.old pass.new (P.inward link.old) (P.inward link.new) (P.written link.old) (P.written link.new)) }
 {
     let mut feed = Feed::new(service.alloc);
+    let mut opened = Vec::new(service.alloc);
     let mut answers = 0;
     let mut piece = [0; PIECE];
     for _ in 0..reads {
@@ -61,32 +64,35 @@ pub(crate) fn serve<L: Ledgers, P: Link, C, G: Gate, K: Sink, D: Disk, B: Bell, 
             return Ok(answers);
         }
         feed.take(&piece[..count])?;
-        answer(service, link, pass, &mut feed, &mut answers)?;
+        answer(service, link, pass, &mut opened, &mut feed, &mut answers)?;
     }
     Err(LinkFault::Endless)
 }
 
-/// Answers all whole lines of `feed`, and adds their number to `answers`.
+/// Answers all whole lines of `feed`, and adds their number to `answers`. `opened` are the places of the channels whose secret was given.
 fn answer<L: Ledgers, P: Link, C, G: Gate, K: Sink, D: Disk, B: Bell, R: Wait>(
     service: &Service<'_, L, C, G, K, D, B, R>,
     link: &mut P,
     pass: &mut Pass<L>,
+    opened: &mut Vec<usize>,
     feed: &mut Feed,
     answers: &mut u64,
 ) -> Result<(), LinkFault>
     ensures faults { IsTrue result (P.failures link.old) (P.failures link.new) }
     ensures unread { P.inward link.new ≡ P.inward link.old }
     ensures other { IfErr result (λ fault. fault ≢ LinkFault.Endless) }
-    ensures served { OnOk result ((taken : List ℕ) (start : PassValue) (base : Option (List ℕ)) → IsServing service.now.hub.now taken feed.old start pass.old base (P.written link.old)
-        → IsDrained service.now.hub.now taken feed.new start pass.new base (P.written link.new)) }
-    ensures broken { OnErr result ((taken : List ℕ) (start : PassValue) (base : Option (List ℕ)) → IsServing service.now.hub.now taken feed.old start pass.old base (P.written link.old)
-        → IsBroken service.now.hub.now taken start pass.new base (P.written link.new)) }
+    ensures served { OnOk result ((taken : List ℕ) (start : Caller) (base : Option (List ℕ))
+        → IsServing (origin service.now.hub.now service.now.secrets.now) taken feed.old start (caller pass.old opened.old.items) base (P.written link.old)
+        → IsDrained (origin service.now.hub.now service.now.secrets.now) taken feed.new start (caller pass.new opened.new.items) base (P.written link.new)) }
+    ensures broken { OnErr result ((taken : List ℕ) (start : Caller) (base : Option (List ℕ))
+        → IsServing (origin service.now.hub.now service.now.secrets.now) taken feed.old start (caller pass.old opened.old.items) base (P.written link.old)
+        → IsBroken (origin service.now.hub.now service.now.secrets.now) taken start pass.new base (P.written link.new)) }
 {
     for _ in service.rt.forever() {
         let Some(line) = feed.next() else {
             return Ok(());
         };
-        let (reply, kept) = publish(service, pass, line)?;
+        let (reply, kept) = reply_to(service, pass, opened, line)?;
         *answers = answers.saturating_add(1);
         service.gate.pass(*answers);
         tell(service, link, &reply, kept)?;
@@ -112,6 +118,37 @@ fn tell<L: Ledgers, P: Link, C, G, K, D, B, R>(
     match write_all(link, text.as_bytes()) {
         Ok(()) => Ok(()),
         Err(_) => Err(LinkFault::Write),
+    }
+}
+
+/// Returns the answer to `line`. It is read unless its channel has a secret that isn't among `opened`; a line that gives the secret adds the
+/// channel's place to these.
+fn reply_to<L: Ledgers, C, G: Gate, K: Sink, D: Disk, B: Bell, R: Wait>(
+    service: &Service<'_, L, C, G, K, D, B, R>,
+    pass: &mut Pass<L>,
+    opened: &mut Vec<usize>,
+    line: Line<'_>,
+) -> Result<(Told, Option<Token>), LinkFault>
+    ensures own { IsOwn result }
+    ensures right { IfOk result (λ told. IsTold (origin service.now.hub.now service.now.secrets.now) (caller pass.old opened.old.items) (meant line.entry) told.0) }
+    ensures remembered { IfOk result (λ told. caller pass.new opened.new.items
+        ≡ caller_after (origin service.now.hub.now service.now.secrets.now) (meant line.entry) told.0 (caller pass.old opened.old.items)) }
+    ensures kept { IfOk result (λ told. HasToken told.0 told.1) }
+    ensures unchanged { OnErr result (pass.new ≡ pass.old) }
+{
+    match service.passage(opened, &line) {
+        Passage::Passes => publish(service, pass, line),
+        Passage::Opens(channel) => {
+            if opened.push(channel).is_err() {
+                return Err(LinkFault::Memory);
+            }
+            Ok((Ok(Success::Opened), None))
+        }
+        Passage::Stays(channel) => {
+            let refusal = Refusal::NotAllowed;
+            service.gate.published(channel, Err(refusal));
+            Ok((Err(refusal), None))
+        }
     }
 }
 

@@ -1,5 +1,6 @@
 //! A connection of either role, served to its end.
 ghost use Rattle.std.specs.Prelude.{◌≡◌, ◌^◌, IsErrOf, OnErr, OnOk, min};
+ghost use Rattle.ll_link.specs.Doors.{origin};
 ghost use Rattle.ll_link.specs.Faults.{IsTrue};
 ghost use Rattle.ll_link.specs.Publishing.{IsCutOff, IsServed};
 ghost use Rattle.ll_link.specs.Reads.{IsReadThrough, IsReadWithin};
@@ -38,8 +39,8 @@ pub fn serve_link<
     ensures faults { IsTrue result (P.failures link.old) (P.failures link.new) }
     ensures few { IsReadWithin (P.inward link.old) (P.inward link.new) (2 ^ 32) }
     ensures endless { IsErrOf result LinkFault.Endless → IsReadThrough (P.inward link.old) (P.inward link.new) (2 ^ 32) }
-    ensures served { role ≡ Role.Publisher → OnOk result (IsServed service.now.hub.now pass.old pass.new (P.inward link.old) (P.inward link.new) (P.written link.old) (P.written link.new)) }
-    ensures cut_off { role ≡ Role.Publisher → OnErr result (IsCutOff service.now.hub.now pass.old pass.new (P.inward link.old) (P.inward link.new) (P.written link.old) (P.written link.new)) }
+    ensures served { role ≡ Role.Publisher → OnOk result (IsServed (origin service.now.hub.now service.now.secrets.now) pass.old pass.new (P.inward link.old) (P.inward link.new) (P.written link.old) (P.written link.new)) }
+    ensures cut_off { role ≡ Role.Publisher → OnErr result (IsCutOff (origin service.now.hub.now service.now.secrets.now) pass.old pass.new (P.inward link.old) (P.inward link.new) (P.written link.old) (P.written link.new)) }
 {
     serve_link_within(service, role, link, pass, READS)
 }
@@ -64,8 +65,8 @@ pub fn serve_link_within<
     ensures faults { IsTrue result (P.failures link.old) (P.failures link.new) }
     ensures few { IsReadWithin (P.inward link.old) (P.inward link.new) (min reads (2 ^ 32)) }
     ensures endless { IsErrOf result LinkFault.Endless → IsReadThrough (P.inward link.old) (P.inward link.new) (min reads (2 ^ 32)) }
-    ensures served { role ≡ Role.Publisher → OnOk result (IsServed service.now.hub.now pass.old pass.new (P.inward link.old) (P.inward link.new) (P.written link.old) (P.written link.new)) }
-    ensures cut_off { role ≡ Role.Publisher → OnErr result (IsCutOff service.now.hub.now pass.old pass.new (P.inward link.old) (P.inward link.new) (P.written link.old) (P.written link.new)) }
+    ensures served { role ≡ Role.Publisher → OnOk result (IsServed (origin service.now.hub.now service.now.secrets.now) pass.old pass.new (P.inward link.old) (P.inward link.new) (P.written link.old) (P.written link.new)) }
+    ensures cut_off { role ≡ Role.Publisher → OnErr result (IsCutOff (origin service.now.hub.now service.now.secrets.now) pass.old pass.new (P.inward link.old) (P.inward link.new) (P.written link.old) (P.written link.new)) }
 {
     let most = reads.min(READS);
     match role {

@@ -4,6 +4,7 @@ ghost use Rattle.ll_link.specs.Faults.{IsOwn};
 
 use crate::fault::LinkFault;
 use ll_counts::Gate;
+use ll_door::Digest;
 use ll_hub::{Hub, Ledgers, Sink};
 use ll_spool::Spool;
 use std::alloc::Global;
@@ -29,6 +30,8 @@ pub struct Service<'a, L: Ledgers, C, G, K, D, B, R> {
     pub hub: &'a Hub<L>,
     /// The channels' spools, in their order, or none if no items are kept.
     pub spools: &'a [Mutex<Spool<D>>],
+    /// The digests of the channels' secrets, in their order; further channels have none.
+    pub secrets: &'a [Option<Digest>],
 }
 
 /// A token: the record of the channel at place `channel` was handed out. Only [`Service::hand_out`] makes one.

@@ -88,6 +88,7 @@ fn serve_one<L: Ledgers, R: Wait + Clock + Abort>(
         bell: &Silent,
         hub,
         spools: no_spools(),
+        secrets: &[],
     };
     let _ = serve_link(&service, role, &mut wire, pass);
     same(rt, "the answer", text_of(&wire.into_sent()), answer);

@@ -136,6 +136,7 @@ fn serve_beside<'a, L: Ledgers + Send + Sync, R: Threads + Wait + time::Clock + 
         bell: &Silent,
         hub,
         spools: no_spools(),
+        secrets: &[],
     };
     thread::join(
         rt,

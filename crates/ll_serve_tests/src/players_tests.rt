@@ -113,6 +113,7 @@ fn admit<
         bell: &bells,
         hub,
         spools: no_spools(),
+        secrets: &[],
     };
     match serve_players(&service, listener, bells, idle) {
         Ok(passes) => passes,

@@ -102,6 +102,7 @@ fn serve_beside<'a, L: Ledgers + Send + Sync, R: Threads + Wait + time::Clock + 
         bell: &Silent,
         hub,
         spools: no_spools(),
+        secrets: &[],
     };
     thread::join(
         rt,
@@ -216,6 +217,7 @@ fn serve_in_steps<'a, L: Ledgers, R: Wait + time::Clock + Abort>(
         bell: &Silent,
         hub: &hub,
         spools: no_spools(),
+        secrets: &[],
     };
     let link = Halting {
         wire: Wire::new(alloc, bytes, steps.plan),
@@ -443,6 +445,7 @@ fn leave<L: Ledgers, R: Wait + Abort>(
         bell: &Silent,
         hub,
         spools: no_spools(),
+        secrets: &[],
     };
     let tape = Tape::new(rt, alloc);
     let link = Halting {

@@ -110,6 +110,7 @@ pub(crate) fn service<'a, L: Ledgers, R>(
         bell: &Silent,
         hub,
         spools: no_spools(),
+        secrets: &[],
     }
 }
 

@@ -165,6 +165,7 @@ fn serve_boxes<L: Ledgers + Send + Sync, G: Gate + Sync, R: Threads + Wait + Clo
         bell: &Silent,
         hub,
         spools: no_spools(),
+        secrets: &[],
     };
     match serve_links(&service, Role::Player, &mut peers, workers) {
         Ok(passes) => passes,

@@ -1,5 +1,6 @@
 -- Each line that is given is answered once.
-use Rattle.std.proofs.Common.{refl, sym, ◌∙◌}
+use Rattle.std.proofs.Common.{ap, refl, sym, ◌∙◌}
+use Rattle.ll_link.specs.Publishing.{Caller}
 use Rattle.ll_link.proofs.ServingLemmas.{broken-by, broken-told, broken-untold, serving-drained, serving-more}
 use Rattle.ll_link.proofs.publisher.answer.Goals as goal
 
@@ -12,7 +13,7 @@ loop-preserved g c = record {
   unread = c.in_ok-tell.ensures.unread ∙ c.loop.invariant.unread;
   serving =
       λ taken start base s. serving-more _ taken _ _ start _ _ base _ _ _ _ (c.loop.invariant.serving taken start base s) (sym c.in-Some-next.ensures.line)
-      c.next-in-loop.follows.holds-at-none c.in_ok-reply.ensures.right c.in_ok-reply.ensures.passed c.in_ok-tell.ensures.sent;
+      c.next-in-loop.follows.holds-at-none c.in_ok-reply.ensures.right c.in_ok-reply.ensures.remembered c.in_ok-tell.ensures.sent;
 }
 
 pub returns-in_default-clause-served : goal.returns-in_default-clause-served
@@ -27,5 +28,5 @@ returns-in_err-reply-clause-broken g c =
 pub returns-in_err-tell-clause-broken : goal.returns-in_err-tell-clause-broken
 returns-in_err-tell-clause-broken g c =
     broken-by _ _ _ _ _ _ _ _ _ _ c.loop.invariant.serving
-    (λ taken start base s. broken-told _ taken _ start _ _ base _ _ _ _ s (sym c.in-Some-next.ensures.line) c.in_ok-reply.ensures.right c.in_ok-reply.ensures.passed
+    (λ taken start base s. broken-told _ taken _ start _ _ base _ _ _ _ s (sym c.in-Some-next.ensures.line) c.in_ok-reply.ensures.right (ap (λ (c : Caller). c.pass) c.in_ok-reply.ensures.remembered)
     c.in_err-tell.ensures.cut)
