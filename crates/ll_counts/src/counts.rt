@@ -13,7 +13,7 @@ use std::alloc::{AllocError, Global};
 use std::fmt;
 
 /// Why an item is refused once its channel is known, in the order of the line of numbers.
-pub(crate) const REFUSALS: [Refusal; 15] = [
+pub(crate) const REFUSALS: [Refusal; 16] = [
     Refusal::Rule(PublishFault::NoRendition),
     Refusal::Rule(PublishFault::Ended),
     Refusal::Rule(PublishFault::BadDuration),
@@ -29,6 +29,7 @@ pub(crate) const REFUSALS: [Refusal; 15] = [
     Refusal::BadLine,
     Refusal::Rule(PublishFault::NoSegment),
     Refusal::Rule(PublishFault::TimeBack),
+    Refusal::NotAllowed,
 ];
 
 /// What is counted of one channel.

@@ -8,7 +8,7 @@ use Rattle.ll_entry.proofs.Numbers.{number-back, number-word}
 use Rattle.ll_format.proofs.FormatLaws.{key_again, lacks}
 use Rattle.ll_publish.specs.Refusals.{at_line, ended_word, ok_line, refusal_code, refusal_line, refusal_name}
 use Rattle.ll_publish.specs.declared.refusal.Refusal.{Refusal}
-use Rattle.ll_publish.specs.declared.refusal.Refusal.TheVariants.{Rule, BadLine, UnknownChannel, LineTooLong, MediaTooLong}
+use Rattle.ll_publish.specs.declared.refusal.Refusal.TheVariants.{Rule, BadLine, UnknownChannel, LineTooLong, MediaTooLong, NotAllowed}
 use Rattle.ll_announce.specs.Standings.{standing}
 use Rattle.ll_announce.proofs.StandingLaws.{standing-laws}
 use Rattle.ll_format.specs.Format.{flag_text}
@@ -72,6 +72,7 @@ words BadLine = (refl, refl, refl)
 words UnknownChannel = (refl, refl, refl)
 words LineTooLong = (refl, refl, refl)
 words MediaTooLong = (refl, refl, refl)
+words NotAllowed = (refl, refl, refl)
 
 halves-are : (front back : List ℕ) → lacks 32 front ≡ true → halves (front ++ 32 ∷ back) ≡ Some (front, back)
 halves-are front back spaceless =

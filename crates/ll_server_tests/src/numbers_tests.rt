@@ -44,10 +44,11 @@ no NoSegment => no-NoSegment=1
 no TimeBack => no-TimeBack=1
 no UnknownChannel => 
 no LineTooLong => 
-no MediaTooLong => ";
+no MediaTooLong => 
+no NotAllowed => no-NotAllowed=1";
 
 /// All refusals.
-const REFUSALS: [Refusal; 18] = [
+const REFUSALS: [Refusal; 19] = [
     Refusal::Rule(PublishFault::NoRendition),
     Refusal::Rule(PublishFault::Ended),
     Refusal::Rule(PublishFault::BadDuration),
@@ -66,6 +67,7 @@ const REFUSALS: [Refusal; 18] = [
     Refusal::UnknownChannel,
     Refusal::LineTooLong,
     Refusal::MediaTooLong,
+    Refusal::NotAllowed,
 ];
 
 #[test]

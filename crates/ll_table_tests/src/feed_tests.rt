@@ -194,11 +194,13 @@ too long a line => no 15 LineTooLong␊
 a bad line => no 13 BadLine␊
 too long a part => no 4 TooLong␊
 too many bytes => no 16 MediaTooLong␊
+a channel that isn't open => no 19 NotAllowed␊
+a secret => ok 0␊
 place of 17 => at 17 61 2 123456789 1700000123457␊
 last place of 18446744073709551615 => at 18446744073709551615 61 2 123456789 1700000123457 ended␊";
 
 /// The code and the name of each refusal, as a publisher reads them.
-const CODES: [(Refusal, &str); 18] = [
+const CODES: [(Refusal, &str); 19] = [
     (
         Refusal::Rule(PublishFault::NoRendition),
         "no 1 NoRendition\n",
@@ -232,6 +234,7 @@ const CODES: [(Refusal, &str); 18] = [
     (Refusal::MediaTooLong, "no 16 MediaTooLong\n"),
     (Refusal::Rule(PublishFault::NoSegment), "no 17 NoSegment\n"),
     (Refusal::Rule(PublishFault::TimeBack), "no 18 TimeBack\n"),
+    (Refusal::NotAllowed, "no 19 NotAllowed\n"),
 ];
 
 #[test]
@@ -253,6 +256,8 @@ fn reply(name: &str) -> Result<Success, Refusal> {
     match name {
         "too long a line" => Err(Refusal::LineTooLong),
         "too many bytes" => Err(Refusal::MediaTooLong),
+        "a channel that isn't open" => Err(Refusal::NotAllowed),
+        "a secret" => Ok(Success::Opened),
         "an item that isn't kept" => Ok(Success::NotKept(7)),
         "a bad line" => Err(Refusal::from(ItemFault::BadLine)),
         "too long a part" => Err(Refusal::from(PublishFault::TooLong)),
