@@ -1,4 +1,6 @@
 //! Socket files, by which programs of one machine connect.
+ghost use Rattle.std.specs.Prelude.{◌≤◌, IfSome};
+
 use libc::net::AF_UNIX;
 use std::alloc::Global;
 use std::fs::Permissions;
@@ -71,7 +73,8 @@ fn is_left<R: Net + Files>(rt: &R, path: &str) -> io::Result<bool> {
 
 /// Connects to the socket file `path`. Fails rather than wait if too many others wait there to be accepted.
 pub(crate) fn connect<R: Net>(rt: &R, path: &str) -> io::Result<OwnedFd> {
-    let Some((address, length)) = raw_address(path) else {
+    let mut address = [0; 128];
+    let Some(length) = put_address(path, &mut address) else {
         return Err(Error::from(ErrorKind::InvalidInput));
     };
     // std's connect would wait for as long as nobody accepts.
@@ -83,16 +86,18 @@ pub(crate) fn connect<R: Net>(rt: &R, path: &str) -> io::Result<OwnedFd> {
     Ok(OwnedFd::from(stream))
 }
 
-/// Returns the system's form of the address of the socket file `path`, and its length, or `None` if there is none.
-fn raw_address(path: &str) -> Option<([u8; 128], u32)> {
+/// Writes the system's form of the address of the socket file `path` to the front of `raw`, which has zeros, and returns its length, or `None`
+/// if there is no such address.
+fn put_address(path: &str, raw: &mut [u8; 128]) -> Option<u32>
+    ensures { IfSome result (λ length. length ≤ 128) }
+{
     let path = path.as_bytes();
     if path.is_empty() || path.len() > LONGEST || path.contains(&0) {
         return None;
     }
-    let mut raw = [0; 128];
     raw[..2].copy_from_slice(&(AF_UNIX as u16).to_ne_bytes());
     raw[2..2 + path.len()].copy_from_slice(path);
-    Some((raw, 3 + path.len() as u32))
+    Some(3 + path.len() as u32)
 }
 
 /// Returns the error of the system call that failed last.
