@@ -4,7 +4,7 @@
 # runs all of them so). Once the program is proved, each row runs on it, as each compiler of the toolchain builds it. Beside these, the proved program
 # is tested with devices that give and take a few bytes at a time, large inputs, mutated playlists, mutated records, records in format 2, entries that
 # are explained, the bytes of connections cut in every way, connections that end too early, mutated heads, and calls whose memory is refused; and with
-# the server's log, what is published to it, and its records, which mostly wait; and its Debian package (SLOW=1: installed in a clean Debian too). Then
+# the server's addresses, log, what is published to it, and its records, which mostly wait; and its Debian package (SLOW=1: installed in a clean Debian too). Then
 # come, one at a time, the server with real sockets, what stands in front of it, a player that watches it, and a page in a browser. The last line is
 # the sum, `N passed, M failed`.
 . "$(dirname "${BASH_SOURCE[0]}")/common.sh" || exit 2
@@ -67,7 +67,7 @@ proofs=$!
 until grep -Eqs '^rt: llhls (proved$|is kept: )' "$room/proofs" || [ -e "$room/proofs.status" ]; do
     sleep 1
 done
-for name in log.py pair.py push.py record.py spool.py; do
+for name in doors.py log.py pair.py push.py record.py spool.py; do
     begin "tests/$name" "$program"
     waiting=$((waiting + 1))
 done

@@ -11,13 +11,14 @@ import threading
 from push_model import Standing
 
 ALL_OK = ','.join(['ok'] * 100)
+LONGEST = 4096    # bytes of an answer to a greeting
 
 
-def held_port():
-    """Returns a socket that has a port and doesn't listen there: nobody else gets that port, and whoever connects to it is refused."""
+def held_port(place=('127.0.0.1', 0)):
+    """Returns a socket that has a port, or this one, and doesn't listen there: nobody else gets that port, and whoever connects to it is refused."""
     held = socket.socket()
     held.setsockopt(socket.SOL_SOCKET, socket.SO_REUSEADDR, 1)
-    held.bind(('127.0.0.1', 0))
+    held.bind(place)
     return held
 
 
@@ -71,6 +72,26 @@ class Meeting:
 
     def __init__(self, link, stream, rendition):
         self.link, self.stream, self.rendition = link, stream, rendition
+
+    def is_greeted(self, line, answer):
+        """Answers a greeting, which has to be this line. Returns whether the connection goes on after it."""
+        greeting = self.stream.readline()
+        if greeting != line:
+            raise ValueError(f'the greeting is {greeting!r}')
+        self.link.sendall(answer)
+        if len(answer) > LONGEST:
+            self.ends()
+        return answer.endswith(b'\n') and len(answer) <= LONGEST
+
+    def ends(self):
+        """Tests that nothing more comes."""
+        try:
+            rest = self.stream.read()
+        except ConnectionResetError:
+            # The program left some of an answer unread.
+            rest = b''
+        if rest:
+            raise ValueError(f'after the last answer comes {rest[:100]!r}')
 
     def take_some(self, count):
         """Takes `count` bytes of a message. The connection is then closed by a reset, as one with bytes unread."""
@@ -126,25 +147,21 @@ class Meeting:
             self.answer_with_end(plan[count:count + 1])
             if not self.is_sent(what):
                 return
-        try:
-            rest = self.stream.read()
-        except ConnectionResetError:
-            # The program left some of an answer unread.
-            rest = b''
-        if rest:
-            raise ValueError(f'after the last answer comes {rest[:100]!r}')
+        self.ends()
 
 
 class Peer(threading.Thread):
-    """An origin at `address` that serves the connections of its plan one after another, and then listens no more; `wrong` says what it got that it doesn't expect."""
+    """An origin at `address` that serves the connections of its plan one after another, and then listens no more; `wrong` says what it got that it doesn't expect. It listens at a port
+    of the system's choice or at `at`. If it has a `greeting`, a line and its answer, each connection begins with that line; `greeted` counts them."""
 
-    def __init__(self, plan, place=None):
+    def __init__(self, plan, place=None, greeting=None, at=('127.0.0.1', 0)):
         super().__init__(daemon=True)
         self.rendition = Rendition(Standing() if place is None else place)
+        self.greeting, self.greeted = greeting, 0
         self.plans = [each.split(',') for each in plan.split('/')]
         self.link, self.is_stopped, self.wrong = None, False, ''
         # Once nobody listens any more, the port still isn't another test's.
-        self.held = held_port()
+        self.held = held_port(at)
         self.address = address_of(self.held)
         self.listener = socket.create_server(self.held.getsockname())
         self.start()
@@ -157,12 +174,20 @@ class Peer(threading.Thread):
                 if plan is self.plans[-1]:
                     self.listener.close()
                 with self.link, self.link.makefile('rb') as stream:
-                    Meeting(self.link, stream, self.rendition).serve(plan)
+                    self.meet(Meeting(self.link, stream, self.rendition), plan)
         except (OSError, ValueError) as error:
             if not self.is_stopped:
                 self.wrong = f'the origin: {error}'
         finally:
             self.listener.close()
+
+    def meet(self, meeting, plan):
+        """Does what the plan of a connection says, after its greeting."""
+        if self.greeting:
+            self.greeted += 1
+            if not meeting.is_greeted(*self.greeting):
+                return
+        meeting.serve(plan)
 
     def has_ended(self):
         """Waits until all connections of its plan were there. Returns whether they were."""

@@ -14,9 +14,9 @@ class PushRoom(Room):
         super().__init__(*words)
         self.peers = []
 
-    def peer(self, plan, place=None):
+    def peer(self, plan, place=None, **words):
         """Starts an origin that behaves as the plan says."""
-        self.peers.append(Peer(plan, place))
+        self.peers.append(Peer(plan, place, **words))
         return self.peers[-1]
 
     def start_push(self, address, stdin, channel='cam', words=(), stderr=None):

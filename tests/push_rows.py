@@ -99,9 +99,19 @@ WRONG_WORDS = '''
 127.0.0.1:1 cam hi part=1
 127.0.0.1:1 cam hi part=1 segment=1 more
 127.0.0.1 cam hi part=1 segment=1
-localhost:1 cam hi part=1 segment=1
 127.0.0.1:65536 cam hi part=1 segment=1
-[::1]:1 cam hi part=1 segment=1
+127.0.0.256:1 cam hi part=1 segment=1
+localhost cam hi part=1 segment=1
+localhost: cam hi part=1 segment=1
+localhost:+1 cam hi part=1 segment=1
+:1 cam hi part=1 segment=1
+.:1 cam hi part=1 segment=1
+local/host:1 cam hi part=1 segment=1
+[::1] cam hi part=1 segment=1
+[::1]:65536 cam hi part=1 segment=1
+[localhost]:1 cam hi part=1 segment=1
+::1:1 cam hi part=1 segment=1
+unix: cam hi part=1 segment=1
 127.0.0.1:1 CAM hi part=1 segment=1
 127.0.0.1:1 cam h/i part=1 segment=1
 127.0.0.1:1 cam hi segment=1 part=1
@@ -119,5 +129,9 @@ localhost:1 cam hi part=1 segment=1
 127.0.0.1:1 cam hi part=1 segment=1 retry=1 ahead=no
 127.0.0.1:1 cam hi part=1 segment=1 end retry=1
 127.0.0.1:1 cam hi part=1 segment=1 end end
+127.0.0.1:1 cam hi part=1 segment=1 secret=
+127.0.0.1:1 cam hi part=1 segment=1 secret=a secret=a
+127.0.0.1:1 cam hi part=1 segment=1 secret=a end secret=a
+127.0.0.1:1 cam hi part=1 segment=1 secret=a keep=1
 127.0.0.1:1 cam hi part=1 segment=1 most=1 end more
 '''

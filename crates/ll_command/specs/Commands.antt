@@ -1,5 +1,5 @@
 -- The command that the program's words spell.
-use Rattle.std.specs.Prelude.{ℕ, ◌+◌, ◌-◌, ◌/◌, ◌^◌, ◌&&◌, ◌==◌, Bool, true, false, max, min, nat_le, List, [], ◌∷◌, Option, Some, None, Result, Ok, Err, bytes_eq, codes, length, not, option_and_then, if◌then◌else◌}
+use Rattle.std.specs.Prelude.{ℕ, ◌+◌, ◌-◌, ◌/◌, ◌^◌, ◌&&◌, ◌==◌, Bool, true, false, max, min, nat_le, List, [], ◌∷◌, Option, Some, None, Result, Ok, Err, bytes_eq, codes, length, not, option_and_then, option_map, if◌then◌else◌}
 use Rattle.std.specs.Option.{unwrap_or}
 use Rattle.ll_attr.specs.Words.{after}
 use Rattle.ll_command.specs.declared.command.Command.{Command}
@@ -29,8 +29,8 @@ pub data Call : Type 0 where
   Multivariant : List ℕ → List (List ℕ) → Call
   -- write the version
   Version : Call
-  -- publish what an encoder writes to standard input: at an address, in a channel and a rendition, by a plan
-  Push : List ℕ → List ℕ → List ℕ → Plan → Call
+  -- publish what an encoder writes to standard input: at addresses, in a channel and a rendition, by a plan, with the secret in a file
+  Push : List ℕ → List ℕ → List ℕ → Plan → Option (List ℕ) → Call
 
 -- the command `name` without a file
 abbrev pub alone : List ℕ → Result Call Fault
@@ -81,18 +81,34 @@ abbrev pub flagged : List ℕ → List (List ℕ) → Bool × List (List ℕ)
 flagged flag [] = (false, [])
 flagged flag (word ∷ words) = if bytes_eq word flag then (true, words) else (false, word ∷ words)
 
--- `most=` with a number, `ahead=no`, `retry=` and `keep=` with a number and `end`, in this order; each is optional
+-- the path after `secret=` that the first word has, if it has one, and the words that are left
+abbrev pub secret_by : List ℕ → List (List ℕ) → Option (List ℕ) → Option (List ℕ) × List (List ℕ)
+secret_by word words (Some path) = if length path == 0 then (None, word ∷ words) else (Some path, words)
+secret_by word words None = (None, word ∷ words)
+
+abbrev pub secret : List (List ℕ) → Option (List ℕ) × List (List ℕ)
+secret [] = (None, [])
+secret (word ∷ words) = secret_by word words (after (codes "secret=") word)
+
+-- the path, if it did not stand before
+abbrev pub secret_after : Option (List ℕ) → List (List ℕ) → Option (List ℕ) × List (List ℕ)
+secret_after (Some path) words = (Some path, words)
+secret_after None words = secret words
+
+-- `most=` with a number, `ahead=no`, `retry=` and `keep=` with a number and `end`, in this order, and `secret=` with a path before or after
+-- `end`; each is optional
 pub record Options : Type 0 where
   pub most : Option ℕ
   pub hasty : Bool
   pub retry : Option ℕ
   pub keep : Option ℕ
   pub ends : Bool
+  pub secret : Option (List ℕ)
 
 -- the options, if no words are left after them
-abbrev pub options_by : Option ℕ → Bool → Option ℕ → Option ℕ → Bool × List (List ℕ) → Option Options
-options_by most hasty retry keep ends =
-    if length ends.1 == 0 then Some (record { most = most; hasty = hasty; retry = retry; keep = keep; ends = ends.0 }) else None
+abbrev pub options_by : Option ℕ → Bool → Option ℕ → Option ℕ → Bool → Option (List ℕ) × List (List ℕ) → Option Options
+options_by most hasty retry keep ends last =
+    if length last.1 == 0 then Some (record { most = most; hasty = hasty; retry = retry; keep = keep; ends = ends; secret = last.0 }) else None
 
 abbrev pub options : List (List ℕ) → Option Options
 options words =
@@ -100,42 +116,47 @@ options words =
     let hasty = flagged (codes "ahead=no") most.1 in
     let retry = numbered (codes "retry=") hasty.1 in
     let keep = numbered (codes "keep=") retry.1 in
-    options_by most.0 hasty.0 retry.0 keep.0 (flagged (codes "end") keep.1)
+    let early = secret keep.1 in
+    let ends = flagged (codes "end") early.1 in
+    options_by most.0 hasty.0 retry.0 keep.0 ends.0 (secret_after early.0 ends.1)
 
--- the plan, if the longest segment is no shorter than a part; a lost connection is tried again for 60 seconds by default, and 64 MiB wait for
+-- the plan and the path of the secret, if the longest segment is no shorter than a part; a lost connection is tried again for 60 seconds by default, and 64 MiB wait for
 -- an origin
-abbrev pub plan_by : ℕ → ℕ → ℕ → Options → Option Plan
+abbrev pub plan_by : ℕ → ℕ → ℕ → Options → Option (Plan × Option (List ℕ))
 plan_by part segment most o =
     if nat_le part most then
-    Some (record {
-      lengths = record { part = part; segment = segment; most = most; ahead = not o.hasty };
-      retry = unwrap_or o.retry 60;
-      keep = unwrap_or o.keep 67108864;
-      ends = o.ends;
-    })
+    Some (
+      record {
+        lengths = record { part = part; segment = segment; most = most; ahead = not o.hasty };
+        retry = unwrap_or o.retry 60;
+        keep = unwrap_or o.keep 67108864;
+        ends = o.ends;
+      },
+      o.secret,
+    )
     else None
 
-abbrev pub plan_of : Option ℕ → Option ℕ → Option Options → Option Plan
+abbrev pub plan_of : Option ℕ → Option ℕ → Option Options → Option (Plan × Option (List ℕ))
 plan_of (Some part) (Some segment) (Some o) = plan_by part segment (unwrap_or o.most (usual_most part segment)) o
 plan_of (Some part) (Some segment) None = None
 plan_of (Some part) None options = None
 plan_of None segment options = None
 
 -- how an encoder's output is published: `part=` and `segment=` with microseconds, and then options
-abbrev pub plan : List ℕ → List ℕ → List (List ℕ) → Option Plan
+abbrev pub plan : List ℕ → List ℕ → List (List ℕ) → Option (Plan × Option (List ℕ))
 plan part segment words = plan_of (setting (codes "part=") part) (setting (codes "segment=") segment) (options words)
 
-abbrev pub push_by : List ℕ → List ℕ → List ℕ → Option Plan → Result Call Fault
-push_by address channel rendition (Some plan) = Ok (Push address channel rendition plan)
+abbrev pub push_by : List ℕ → List ℕ → List ℕ → Option (Plan × Option (List ℕ)) → Result Call Fault
+push_by address channel rendition (Some planned) = Ok (Push address channel rendition planned.0 planned.1)
 push_by address channel rendition None = Err Usage
 
 -- the command that publishes at an address, if the channel and the rendition are names
-abbrev pub push : List ℕ → List ℕ → List ℕ → Option Plan → Result Call Fault
+abbrev pub push : List ℕ → List ℕ → List ℕ → Option (Plan × Option (List ℕ)) → Result Call Fault
 push address channel rendition plan =
     if is_name channel && is_name rendition then push_by address channel rendition plan else Err Usage
 
 -- the command `name` with an address, a channel, a rendition and a plan
-abbrev pub with_plan : List ℕ → List ℕ → List ℕ → List ℕ → Option Plan → Result Call Fault
+abbrev pub with_plan : List ℕ → List ℕ → List ℕ → List ℕ → Option (Plan × Option (List ℕ)) → Result Call Fault
 with_plan name address channel rendition plan = if bytes_eq name (codes "push") then push address channel rendition plan else Err Usage
 
 -- the command of all words but that of Multivariant Playlists, the first of which names the program; other words are wrong usage
@@ -173,6 +194,6 @@ call_of (command.Upgrade chunks) = Upgrade chunks.now
 call_of (command.Summarize chunks) = Summarize chunks.now
 call_of (command.Explain chunks entry) = Explain chunks.now entry
 call_of (command.Serve settings) = Serve settings.now
-call_of (command.Push address channel rendition plan) = Push address.now channel.now rendition.now plan
+call_of (command.Push address channel rendition plan secret) = Push address.now channel.now rendition.now plan (option_map (λ s. s.now) secret)
 call_of (command.Multivariant chunks sources) = Multivariant chunks.now sources.now
 call_of command.Version = Version

@@ -1,5 +1,5 @@
 //! Parses the program's words as a command.
-ghost use Rattle.std.specs.Prelude.{◌≡◌, MatchOption, MatchResult, None, Some, Ok, Err};
+ghost use Rattle.std.specs.Prelude.{◌≡◌, MatchOption, MatchResult, None, Some, Ok, Err, option_map};
 ghost use Rattle.ll_command.specs.Commands as spec;
 ghost use Rattle.ll_command.specs.Commands.{call_of, command_of};
 
@@ -46,7 +46,7 @@ pub enum Command<'a> {
     Version,
     /// `push`: publishes what an encoder writes to standard input.
     Push {
-        /// The address at which the origin listens for publishers.
+        /// The addresses at which the origins listen for publishers, one or more with commas between them.
         address: &'a Text,
         /// The name of a channel.
         channel: &'a Text,
@@ -54,6 +54,8 @@ pub enum Command<'a> {
         rendition: &'a Text,
         /// How the encoder's output is published.
         plan: Plan,
+        /// The name of the file with the channel's secret, if there is one.
+        secret: Option<&'a str>,
     },
 }
 
@@ -112,9 +114,9 @@ impl<'a> Command<'a> {
         address: &'a Text,
         channel: &'a Text,
         rendition: &'a Text,
-        plan: Option<Plan>,
+        plan: Option<(Plan, Option<&'a str>)>,
     ) -> Result<Command<'a>, Fault>
-        ensures { MatchResult result (λ c. spec.with_plan name.now address.now channel.now rendition.now plan ≡ Ok (call_of c)) (λ f. spec.with_plan name.now address.now channel.now rendition.now plan ≡ Err f) }
+        ensures { MatchResult result (λ c. spec.with_plan name.now address.now channel.now rendition.now (option_map (λ p. (p.0, option_map (λ s. s.now) p.1)) plan) ≡ Ok (call_of c)) (λ f. spec.with_plan name.now address.now channel.now rendition.now (option_map (λ p. (p.0, option_map (λ s. s.now) p.1)) plan) ≡ Err f) }
     {
         if name.as_str() == "push" {
             Command::push(address, channel, rendition, plan)
@@ -128,19 +130,20 @@ impl<'a> Command<'a> {
         address: &'a Text,
         channel: &'a Text,
         rendition: &'a Text,
-        plan: Option<Plan>,
+        plan: Option<(Plan, Option<&'a str>)>,
     ) -> Result<Command<'a>, Fault>
-        ensures { MatchResult result (λ c. spec.push address.now channel.now rendition.now plan ≡ Ok (call_of c)) (λ f. spec.push address.now channel.now rendition.now plan ≡ Err f) }
+        ensures { MatchResult result (λ c. spec.push address.now channel.now rendition.now (option_map (λ p. (p.0, option_map (λ s. s.now) p.1)) plan) ≡ Ok (call_of c)) (λ f. spec.push address.now channel.now rendition.now (option_map (λ p. (p.0, option_map (λ s. s.now) p.1)) plan) ≡ Err f) }
     {
         if !is_name(channel.as_str()) || !is_name(rendition.as_str()) {
             return Err(Fault::Usage);
         }
         match plan {
-            Some(plan) => Ok(Command::Push {
+            Some((plan, secret)) => Ok(Command::Push {
                 address,
                 channel,
                 rendition,
                 plan,
+                secret,
             }),
             None => Err(Fault::Usage),
         }

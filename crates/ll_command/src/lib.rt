@@ -6,6 +6,7 @@ mod fault;
 mod multivariant;
 mod plan;
 mod script;
+mod secret;
 mod version;
 mod writing;
 
@@ -14,5 +15,6 @@ pub use fault::{Fault, fault_of};
 pub use multivariant::write_multivariant;
 pub use plan::Plan;
 pub use script::run_script;
+pub use secret::secret_line;
 pub use version::write_version;
 pub use writing::{write_applied, write_checked, write_explained, write_summary, write_upgraded};

@@ -1,5 +1,5 @@
 //! Parses how an encoder's output is published.
-ghost use Rattle.std.specs.Prelude.{◌≡◌, codes};
+ghost use Rattle.std.specs.Prelude.{◌≡◌, codes, option_map};
 ghost use Rattle.ll_command.specs.Commands as spec;
 
 use ll_attr::{Text, after};
@@ -27,9 +27,14 @@ pub struct Plan {
 
 impl Plan {
     /// Parses a plan: `part=` and `segment=` with a number of microseconds, and then the options `most=` with such a number, `ahead=no`,
-    /// `retry=` with a number of seconds, `keep=` with a number of bytes, and `end`, in this order. Returns `None` for other words, or if `most` is shorter than a part.
-    pub(crate) fn of(part: &Text, segment: &Text, words: &[Text]) -> Option<Plan>
-        ensures { result ≡ spec.plan part.now segment.now words.now }
+    /// `retry=` with a number of seconds, `keep=` with a number of bytes, and `end`, in this order. `secret=` with a path may stand before
+    /// `end` or after it: returns the path beside the plan. Returns `None` for other words, or if `most` is shorter than a part.
+    pub(crate) fn of<'a>(
+        part: &Text,
+        segment: &Text,
+        words: &'a [Text],
+    ) -> Option<(Plan, Option<&'a str>)>
+        ensures { option_map (λ p. (p.0, option_map (λ s. s.now) p.1)) result ≡ spec.plan part.now segment.now words.now }
     {
         let part = setting("part=", part.as_str())?;
         let segment = setting("segment=", segment.as_str())?;
@@ -37,7 +42,12 @@ impl Plan {
         let (hasty, words) = flagged("ahead=no", words);
         let (retry, words) = numbered("retry=", words);
         let (keep, words) = numbered("keep=", words);
+        let (early, words) = secret(words);
         let (ends, words) = flagged("end", words);
+        let (secret, words) = match early {
+            Some(_) => (early, words),
+            None => secret(words),
+        };
         if !words.is_empty() {
             return None;
         }
@@ -51,12 +61,13 @@ impl Plan {
             most,
             ahead: !hasty,
         };
-        Some(Plan {
+        let plan = Plan {
             lengths,
             retry: retry.unwrap_or(RETRY),
             keep: keep.unwrap_or(KEEP),
             ends,
-        })
+        };
+        Some((plan, secret))
     }
 }
 
@@ -77,6 +88,19 @@ fn numbered<'a>(key: &str, words: &'a [Text]) -> (Option<u64>, &'a [Text])
     match setting(key, word.as_str()) {
         Some(number) => (Some(number), later),
         None => (None, words),
+    }
+}
+
+/// Returns the path after `secret=`, if the first word has one, and the words that are left.
+fn secret(words: &[Text]) -> (Option<&str>, &[Text])
+    ensures { (option_map (λ s. s.now) result.0, result.1.now) ≡ spec.secret words.now }
+{
+    let Some((word, later)) = words.split_first() else {
+        return (None, words);
+    };
+    match after(word.as_str(), "secret=") {
+        Some(path) if !path.is_empty() => (Some(path), later),
+        _ => (None, words),
     }
 }
 

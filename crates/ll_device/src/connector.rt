@@ -1,21 +1,33 @@
 //! Connects to an address, again and again.
-use crate::link::Source;
-use crate::socket::Socket;
-use std::net::{Net, SocketAddr, SocketAddrV4, TcpListener, TcpStream};
-use std::thread;
-use std::time::{Clock, Duration, Instant};
+ghost use Rattle.std.specs.Prelude.{◌≡◌, OnOk};
+ghost use Rattle.std.specs.Io.KnownBytes.{Appends};
 
-/// How long one attempt to connect takes at most, in seconds.
+use crate::address::Address;
+use crate::device::{Failed, write_all};
+use crate::link::{Link, Source};
+use crate::socket::Socket;
+use crate::unix;
+use std::io::{Error, ErrorKind};
+use std::net::{Net, SocketAddr, TcpListener, TcpStream, ToSocketAddrs};
+use std::time::{Clock, Duration, Instant};
+use std::{io, thread};
+
+/// How long one attempt to connect takes at most, and a read of a connection, in seconds.
 const LIMIT: u64 = 30;
 
 /// How long to wait before each further attempt, in milliseconds.
 const PAUSE: u64 = 500;
 
+/// The most bytes of the line that answers a greeting.
+const ANSWER: usize = 4_096;
+
 /// A source of connections to one address.
 #[derive(Drop)]
 pub struct Connector<'a, R> {
     rt: &'a R,
-    address: SocketAddrV4,
+    address: &'a Address,
+    /// The line that is sent first on each connection, if there is one. It may hold a secret.
+    greeting: Option<&'a [u8]>,
     /// How long each connection after the first one is tried.
     retry: Duration,
     /// Whether the first connection was made.
@@ -23,23 +35,76 @@ pub struct Connector<'a, R> {
 }
 
 impl<'a, R: Net<Listener = TcpListener, Stream = TcpStream>> Connector<'a, R> {
-    /// Returns a source that has made no connection yet. Each connection after the first one is tried for `retry`.
-    pub fn new(rt: &'a R, address: SocketAddrV4, retry: Duration) -> Connector<'a, R> {
+    /// Returns a source that has made no connection yet. On each connection it sends `greeting`, if there is one, and reads the line that
+    /// answers it. Each connection after the first one is tried for `retry`.
+    pub fn new(
+        rt: &'a R,
+        address: &'a Address,
+        greeting: Option<&'a [u8]>,
+        retry: Duration,
+    ) -> Connector<'a, R> {
         Connector {
             rt,
             address,
+            greeting,
             retry,
             made: false,
         }
     }
 
-    /// Tries once to connect, for 30 seconds at most. A read or a write of the connection fails if it waits for longer than 30 seconds.
-    fn connect(&self) -> std::io::Result<Socket> {
+    /// Tries once to connect, for 30 seconds at most, and to greet. A read or a write of the connection fails if it waits for longer than 30
+    /// seconds.
+    fn connect(&self) -> Option<Socket> {
         let limit = Duration::from_secs(LIMIT);
-        let stream = TcpStream::connect_timeout(self.rt, &SocketAddr::V4(self.address), limit)?;
+        let stream = match self.address {
+            Address::Ip(address) => TcpStream::connect_timeout(self.rt, address, limit).ok()?,
+            Address::Host(name) => self.connect_to_host(name.as_str(), limit).ok()?,
+            Address::Unix(path) => TcpStream::from(unix::connect(self.rt, path.as_str()).ok()?),
+        };
+        // A socket file's connection has no such setting, and no need of it.
         let _ = stream.set_nodelay(true);
-        Ok(Socket::new(stream))
+        let mut socket = Socket::new(stream, Some(limit));
+        if let Some(line) = self.greeting {
+            greet(&mut socket, line).ok()?;
+        }
+        Some(socket)
     }
+
+    /// Looks the host's name of `name` up, and tries each of its addresses in turn, for the same share of `limit`.
+    fn connect_to_host(&self, name: &str, limit: Duration) -> io::Result<TcpStream> {
+        let addresses = name.to_socket_addrs(self.rt)?;
+        let share = limit / addresses.len().max(1) as u32;
+        for address in addresses {
+            if let Ok(stream) = TcpStream::connect_timeout(self.rt, &address, share) {
+                return Ok(stream);
+            }
+        }
+        Err(Error::from(ErrorKind::NotFound))
+    }
+}
+
+/// Sends `line`, and reads the line that answers it, whatever that says.
+fn greet<L: Link>(link: &mut L, line: &[u8]) -> Result<(), Failed>
+    ensures { OnOk result (Appends (L.written link.old) (L.written link.new) line.now) }
+{
+    write_all(link, line)?;
+    skip_line(link)
+}
+
+/// Reads a line, and no byte after it. Fails if it is longer than 4,096 bytes, or doesn't end.
+fn skip_line<L: Link>(link: &mut L) -> Result<(), Failed>
+    ensures { L.written link.new ≡ L.written link.old }
+{
+    let mut byte = [0];
+    for _ in 0..ANSWER {
+        if link.read(&mut byte)? == 0 {
+            return Err(Failed);
+        }
+        if byte[0] == b'\n' {
+            return Ok(());
+        }
+    }
+    Err(Failed)
 }
 
 impl<R: Net<Listener = TcpListener, Stream = TcpStream> + Clock> Connector<'_, R> {
@@ -51,7 +116,7 @@ impl<R: Net<Listener = TcpListener, Stream = TcpStream> + Clock> Connector<'_, R
                 return None;
             }
             thread::sleep(self.rt, Duration::from_millis(PAUSE));
-            if let Ok(socket) = self.connect() {
+            if let Some(socket) = self.connect() {
                 return Some(socket);
             }
         }
@@ -67,7 +132,7 @@ impl<R: Net<Listener = TcpListener, Stream = TcpStream> + Clock> Source for Conn
         if self.made {
             return self.connect_again();
         }
-        let socket = self.connect().ok()?;
+        let socket = self.connect()?;
         self.made = true;
         Some(socket)
     }

@@ -1,6 +1,7 @@
 //! What bytes come from and go to: readers and writers, connections, and where these come from.
 #![tactic(auto)]
 
+mod address;
 mod again;
 mod connector;
 mod counted;
@@ -11,12 +12,14 @@ mod link;
 mod listener;
 mod socket;
 mod stream;
+mod unix;
 
+pub use address::Address;
 pub use connector::Connector;
 pub use counted::{CountedReader, CountedWriter};
 pub use counted_link::CountedLink;
 pub use counts::TwoCounts;
 pub use device::{Failed, Reader, Writer, write_all, write_both};
 pub use link::{Link, Role, Source, TryLink};
-pub use listener::Listener;
+pub use listener::{Listener, Place};
 pub use socket::Socket;

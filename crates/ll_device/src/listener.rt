@@ -1,12 +1,17 @@
-//! A listening port, where connections come in.
+//! A listening port or socket file, where connections come in.
 use crate::device::Failed;
 use crate::link::{Role, Source};
 use crate::socket::Socket;
+use crate::unix;
 use libc::net::{SO_KEEPALIVE, SOL_SOCKET};
-use std::net::{Net, SocketAddr, SocketAddrV4, TcpListener, TcpStream};
-use std::os::fd::AsRawFd;
-use std::thread;
+use ll_attr::Text;
+use std::alloc::Global;
+use std::net::{Net, SocketAddr, TcpListener, TcpStream};
+use std::os::fd::{AsRawFd, OwnedFd};
+use std::os::unix::net::UnixListener;
+use std::rt::Files;
 use std::time::{Clock, Duration};
+use std::{fmt, io, thread};
 
 /// The most connections that wait to be accepted.
 const BACKLOG: i32 = 4_096;
@@ -21,19 +26,53 @@ fn keep_alive(stream: &TcpStream) {
     let _ = unsafe { libc::net::setsockopt(fd, SOL_SOCKET, SO_KEEPALIVE, &on, 4) };
 }
 
-/// A listening port for connections of one role.
+/// What the system takes connections by.
+#[derive(Drop)]
+enum Port {
+    Tcp(TcpListener),
+    /// A socket file with its path.
+    Unix(UnixListener, Text),
+}
+
+/// Where a listener listens.
+#[derive(Clone, Copy, Debug)]
+pub enum Place<'a> {
+    /// At an IP address and a port.
+    Ip(SocketAddr),
+    /// At the socket file of this path.
+    Unix(&'a str),
+}
+
+impl fmt::Display for Place<'_> {
+    fn fmt<W: fmt::Write>(&self, f: &mut fmt::Formatter<W>) -> fmt::Result {
+        match self {
+            Place::Ip(address) => write!(f, "{address}"),
+            Place::Unix(path) => write!(f, "unix:{path}"),
+        }
+    }
+}
+
+/// A listening port, or a socket file, for connections of one role.
 #[derive(Drop)]
 pub struct Listener<'a, R> {
     rt: &'a R,
     role: Role,
-    listener: TcpListener,
+    port: Port,
+    /// How long a read of a connection waits at most; without it forever.
+    patience: Option<Duration>,
     /// Whether a failure to accept was already reported on stderr.
     told: bool,
 }
 
 impl<'a, R: Net<Listener = TcpListener, Stream = TcpStream>> Listener<'a, R> {
-    /// Listens at `address`. Fails if the system refuses it.
-    pub fn open(rt: &'a R, address: SocketAddrV4, role: Role) -> Result<Listener<'a, R>, Failed> {
+    /// Listens at `address` for connections whose reads fail if nothing comes within `patience`, or wait forever. Fails if the system refuses
+    /// the address.
+    pub fn open(
+        rt: &'a R,
+        address: SocketAddr,
+        role: Role,
+        patience: Option<Duration>,
+    ) -> Result<Listener<'a, R>, Failed> {
         let Ok(listener) = TcpListener::bind(rt, address) else {
             return Err(Failed);
         };
@@ -43,9 +82,36 @@ impl<'a, R: Net<Listener = TcpListener, Stream = TcpStream>> Listener<'a, R> {
         Ok(Listener {
             rt,
             role,
-            listener,
+            port: Port::Tcp(listener),
+            patience,
             told: false,
         })
+    }
+
+    /// Listens at the socket file `path` for publishers' connections whose reads fail if nothing comes within `patience`, or wait forever.
+    /// Only the file's owner and group may use it. It replaces a socket file at which nobody listens, and fails at any other file.
+    pub fn open_unix(
+        rt: &'a R,
+        alloc: Global,
+        path: &str,
+        patience: Option<Duration>,
+    ) -> Result<Listener<'a, R>, Failed>
+    where
+        R: Files,
+    {
+        let Ok(text) = Text::from_str(alloc, path) else {
+            return Err(Failed);
+        };
+        match unix::listen(rt, alloc, path, BACKLOG) {
+            Ok(listener) => Ok(Listener {
+                rt,
+                role: Role::Publisher,
+                port: Port::Unix(listener, text),
+                patience,
+                told: false,
+            }),
+            Err(_) => Err(Failed),
+        }
     }
 
     /// Returns the role of those who connect.
@@ -53,24 +119,39 @@ impl<'a, R: Net<Listener = TcpListener, Stream = TcpStream>> Listener<'a, R> {
         self.role
     }
 
-    /// Returns the address that it listens at. Fails if the system doesn't return it.
-    pub fn address(&self) -> Result<SocketAddr, Failed> {
-        match self.listener.local_addr() {
-            Ok(address) => Ok(address),
-            Err(_) => Err(Failed),
+    /// Returns where it listens. Fails if the system doesn't return that.
+    pub fn place(&self) -> Result<Place<'_>, Failed> {
+        match &self.port {
+            Port::Unix(_, path) => Ok(Place::Unix(path.as_str())),
+            Port::Tcp(listener) => match listener.local_addr() {
+                Ok(address) => Ok(Place::Ip(address)),
+                Err(_) => Err(Failed),
+            },
         }
     }
 
-    /// Accepts the next connection. A player's read fails if nothing comes within 30 seconds; a publisher's waits forever, while the system
-    /// probes whether it is still there.
-    fn accept(&self) -> std::io::Result<Socket> {
-        let (stream, _) = self.listener.accept()?;
-        let _ = stream.set_nodelay(true);
-        match self.role {
-            Role::Player => Ok(Socket::new(stream)),
-            Role::Publisher => {
-                keep_alive(&stream);
-                Ok(Socket::patient(stream))
+    /// Accepts the next connection. While nothing comes of a publisher, the system probes whether it is still there.
+    fn accept(&self) -> io::Result<Socket> {
+        let stream = self.port.accept()?;
+        if matches!(self.role, Role::Publisher) {
+            keep_alive(&stream);
+        }
+        Ok(Socket::new(stream, self.patience))
+    }
+}
+
+impl Port {
+    /// Accepts the next connection.
+    fn accept(&self) -> io::Result<TcpStream> {
+        match self {
+            Port::Tcp(listener) => {
+                let (stream, _) = listener.accept()?;
+                let _ = stream.set_nodelay(true);
+                Ok(stream)
+            }
+            Port::Unix(listener, _) => {
+                let (stream, _) = listener.accept()?;
+                Ok(TcpStream::from(OwnedFd::from(stream)))
             }
         }
     }

@@ -1,4 +1,4 @@
-//! TCP connections as links.
+//! Connections by TCP or a socket file as links.
 ghost use Rattle.std.specs.Prelude.{◌≡◌, is_err};
 
 use crate::device::{Failed, Writer};
@@ -12,14 +12,15 @@ use std::io;
 use std::io::IoSlice;
 use std::net::TcpStream;
 use std::os::fd::{AsRawFd, RawFd};
+use std::time::Duration;
 
-/// How long a write waits at most, and a read that doesn't wait forever, in milliseconds.
+/// How long a write waits at most, in milliseconds.
 const LIMIT: i32 = 30_000;
 
 /// The limit of a wait that lasts forever.
 const ENDLESS: i32 = -1;
 
-/// A TCP connection. Once a read or a write has failed, each read returns the end, and each write takes all bytes without sending them.
+/// A connection by TCP or a socket file: std's `TcpStream` reads and writes either alike. Once a read or a write has failed, each read returns the end, and each write takes all bytes without sending them.
 /// Its contracts don't say which bytes come and go, because those of std's `TcpStream` don't; the functions of `stream.rt`, by which it
 /// reads and writes, say it of any stream.
 #[derive(Drop)]
@@ -31,19 +32,13 @@ pub struct Socket {
 }
 
 impl Socket {
-    /// Returns a connection whose reads fail if nothing comes within 30 seconds.
-    pub(crate) fn new(stream: TcpStream) -> Socket {
-        Socket::waiting(stream, LIMIT)
-    }
-
-    /// Returns a connection whose reads wait forever.
-    pub(crate) fn patient(stream: TcpStream) -> Socket {
-        Socket::waiting(stream, ENDLESS)
-    }
-
-    /// Returns a connection whose reads wait for `patience` milliseconds at most; -1 waits forever.
-    fn waiting(stream: TcpStream, patience: i32) -> Socket {
+    /// Returns a connection whose reads fail if nothing comes within `patience`, or wait forever.
+    pub(crate) fn new(stream: TcpStream, patience: Option<Duration>) -> Socket {
         let _ = stream.set_nonblocking(true);
+        let patience = match patience {
+            Some(time) => i32::try_from(time.as_millis()).unwrap_or(i32::MAX),
+            None => ENDLESS,
+        };
         Socket {
             stream,
             patience,

@@ -1,11 +1,11 @@
 //! Shows on standard error how publishing at several origins goes on.
 use crate::meter::Meter;
 use ll_announce::{Said, Standing};
+use ll_device::Address;
 use ll_pair::Pair;
 use ll_push::Watch;
 use std::alloc::{AllocError, Global};
 use std::fmt::Display;
-use std::net::SocketAddrV4;
 use std::sync::{Mutex, Wait};
 use std::time::Clock;
 
@@ -22,8 +22,8 @@ enum Link {
 
 /// What is shown of one origin.
 #[derive(Drop)]
-struct Row {
-    address: SocketAddrV4,
+struct Row<'a> {
+    address: &'a Address,
     link: Link,
     /// Whether it was said that an item couldn't be kept.
     unkept: bool,
@@ -33,7 +33,7 @@ struct Row {
 #[derive(Drop)]
 struct Rows<'a, R> {
     meter: Meter<'a, R>,
-    rows: Vec<Row>,
+    rows: Vec<Row<'a>>,
 }
 
 /// What is shown, for all threads.
@@ -45,13 +45,13 @@ impl<'a, R: Eprint + Clock + Wait> Board<'a, R> {
     pub(crate) fn new(
         rt: &'a R,
         alloc: Global,
-        addresses: &[SocketAddrV4],
+        addresses: &'a [Address],
         shown: bool,
     ) -> Result<Board<'a, R>, AllocError> {
         let mut rows = Vec::new(alloc);
         for address in addresses {
             let row = Row {
-                address: *address,
+                address,
                 link: Link::Lost,
                 unkept: false,
             };
@@ -104,7 +104,7 @@ impl<'a, R: Eprint + Clock + Wait> Board<'a, R> {
 }
 
 /// Shows an origin for which `behind` bytes wait, after what is shown of others.
-fn show<R: Eprint>(rt: &R, row: &Row, behind: Option<usize>) {
+fn show<R: Eprint>(rt: &R, row: &Row<'_>, behind: Option<usize>) {
     let kilobytes = behind.unwrap_or(0) / 1_000;
     let _ = match row.link {
         Link::Left => eprint!(rt; "| {} left ", row.address),

@@ -1,7 +1,8 @@
 //! The connections to one of several origins.
-use ll_device::{Connector, Socket, Source};
+use crate::origins::Job;
+use ll_device::{Address, Connector, Socket, Source};
 use ll_pair::Pair;
-use std::net::{Net, SocketAddrV4, TcpListener, TcpStream};
+use std::net::{Net, TcpListener, TcpStream};
 use std::sync::Wait;
 use std::thread;
 use std::time::{Clock, Duration, Instant};
@@ -9,7 +10,7 @@ use std::time::{Clock, Duration, Instant};
 /// The pause between two attempts to reach an origin, in milliseconds.
 const PAUSE: u64 = 500;
 
-/// The connections to one origin, which are tried for `retry` seconds, also the first.
+/// The connections to one origin, which are tried for `retry`, also the first.
 #[derive(Drop)]
 pub(crate) struct Connections<'a, R> {
     rt: &'a R,
@@ -20,19 +21,21 @@ pub(crate) struct Connections<'a, R> {
 }
 
 impl<'a, R: Net<Listener = TcpListener, Stream = TcpStream>> Connections<'a, R> {
-    /// Returns the connections to the origin `number` of `pair`, at `address`.
+    /// Returns the connections to the origin `number` of `pair`, at `address`, for `job`.
     pub(crate) fn new(
         rt: &'a R,
         pair: &'a Pair,
         number: usize,
-        address: SocketAddrV4,
-        retry: u64,
+        address: &'a Address,
+        job: &'a Job,
     ) -> Connections<'a, R> {
+        let retry = job.plan.retry;
+        let each = Duration::from_secs(retry.min(1));
         Connections {
             rt,
             pair,
             number,
-            connector: Connector::new(rt, address, Duration::from_secs(retry.min(1))),
+            connector: Connector::new(rt, address, job.greeting(), each),
             retry: Duration::from_secs(retry),
         }
     }

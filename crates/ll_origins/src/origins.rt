@@ -5,11 +5,11 @@ use crate::survey::Survey;
 use ll_announce::{Message, Names, Standing};
 use ll_attr::Text;
 use ll_command::{Fault, Plan};
-use ll_device::{Connector, Reader, Source};
+use ll_device::{Address, Connector, Reader, Source};
 use ll_pair::{Ending, Fed, Outlets, Pair, Taker, carry, feed};
 use ll_push::{Asked, Calendar, Ending as Published, PushFault, Target, ask};
 use std::alloc::{AllocError, Global};
-use std::net::{Net, SocketAddrV4, TcpListener, TcpStream};
+use std::net::{Net, TcpListener, TcpStream};
 use std::sync::{Mutex, Wait};
 use std::thread;
 use std::thread::Threads;
@@ -19,18 +19,28 @@ use std::time::{Clock, Duration};
 #[derive(Drop)]
 pub struct Job {
     /// The addresses at which the origins listen for publishers.
-    pub addresses: Vec<SocketAddrV4>,
+    pub addresses: Vec<Address>,
     /// The name of the channel.
     pub channel: Text,
     /// The name of one of its renditions.
     pub rendition: Text,
     /// How the encoder's output is published.
     pub plan: Plan,
+    /// The line that is sent first on each connection, if there is one. It holds a secret.
+    pub greeting: Option<Vec<u8>>,
 }
 
 impl Job {
+    /// Returns the line that is sent first on each connection, if there is one.
+    pub fn greeting(&self) -> Option<&[u8]> {
+        match &self.greeting {
+            Some(line) => Some(line),
+            None => None,
+        }
+    }
+
     /// Returns the names of the channel and the rendition.
-    fn names(&self) -> Names<'_> {
+    pub fn names(&self) -> Names<'_> {
         Names {
             channel: self.channel.as_str(),
             rendition: self.rendition.as_str(),
@@ -140,7 +150,7 @@ impl<
         let Some(address) = self.job.addresses.get(number) else {
             return false;
         };
-        self.survey.answer(self.rt, number, self.told_at(*address));
+        self.survey.answer(self.rt, number, self.told_at(address));
         let Some(standing) = self.survey.settled(self.rt) else {
             return false;
         };
@@ -151,7 +161,7 @@ impl<
             standing.place,
             retry.saturating_mul(2),
             &mut Taker::new(self.rt, &self.pair, number),
-            &mut Connections::new(self.rt, &self.pair, number, *address, retry),
+            &mut Connections::new(self.rt, &self.pair, number, address, self.job),
             &mut Seen::new(self.rt, &self.board, number),
         );
         match done {
@@ -163,8 +173,10 @@ impl<
     }
 
     /// Asks the origin at `address` where the rendition stands.
-    fn told_at(&self, address: SocketAddrV4) -> Result<Standing, Stopped> {
-        let Some(mut link) = Connector::new(self.rt, address, Duration::ZERO).next() else {
+    fn told_at(&self, address: &Address) -> Result<Standing, Stopped> {
+        let greeting = self.job.greeting();
+        let Some(mut link) = Connector::new(self.rt, address, greeting, Duration::ZERO).next()
+        else {
             return Err(Stopped::Fault(PushFault::Connect));
         };
         match ask(self.alloc, &self.job.names(), &mut link) {

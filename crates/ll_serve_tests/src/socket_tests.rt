@@ -5,7 +5,7 @@ use crate::hubs::{finished, hub_of_one};
 use crate::media_tests::{GETS, GOT, LINES, TAKEN};
 use crate::rows::same;
 use crate::wires::{ANSWER, GET, LINE, service, text_of};
-use ll_device::{Listener, Socket};
+use ll_device::{Listener, Place, Socket};
 use ll_hub::{Blanks, Hub, Ledgers, Pass};
 use ll_serve::{Role, Source, serve_links};
 use std::alloc::Global;
@@ -31,16 +31,20 @@ pub(crate) struct Few<'a, R> {
 impl<'a, R: Net<Listener = TcpListener, Stream = TcpStream> + Abort> Few<'a, R> {
     /// Listens at a free port for `count` connections.
     pub(crate) fn open(rt: &'a R, role: Role, count: u64) -> Few<'a, R> {
-        let address = SocketAddrV4::new(Ipv4Addr::LOCALHOST, 0);
+        let address = SocketAddr::V4(SocketAddrV4::new(Ipv4Addr::LOCALHOST, 0));
+        let patience = Some(Duration::from_secs(LIMIT));
         Few {
-            listener: Listener::open(rt, address, role).expect(rt, "a listener"),
+            listener: Listener::open(rt, address, role, patience).expect(rt, "a listener"),
             left: count,
         }
     }
 
     /// Returns the address at which it listens.
     pub(crate) fn address(&self, rt: &R) -> SocketAddr {
-        self.listener.address().expect(rt, "its address")
+        match self.listener.place().expect(rt, "its address") {
+            Place::Ip(address) => address,
+            Place::Unix(path) => panic!(rt; "it listens at {path}"),
+        }
     }
 }
 

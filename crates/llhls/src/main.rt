@@ -1,6 +1,6 @@
 //! `llhls`, an origin for Low-Latency HLS. `llhls serve SETTINGS` serves publishers and players over TCP; `llhls push ADDRESS[,ADDRESS ..]
-//! CHANNEL RENDITION part=US segment=US [most=US] [ahead=no] [retry=S] [keep=BYTES] [end]` publishes what an encoder writes; `llhls replay` runs a script;
-//! `llhls check FILE` checks the record of a channel, `llhls upgrade FILE` writes it in format 2, and `llhls explain FILE [ENTRY]`
+//! CHANNEL RENDITION part=US segment=US [most=US] [ahead=no] [retry=S] [keep=BYTES] [secret=FILE] [end]` publishes what an encoder writes;
+//! `llhls replay` runs a script; `llhls check FILE` checks the record of a channel, `llhls upgrade FILE` writes it in format 2, and `llhls explain FILE [ENTRY]`
 //! summarizes it or explains an entry; `llhls multivariant RECORD NAME=INIT ..` writes its Multivariant Playlist; `llhls apply BASE DELTA`
 //! applies a delta update to a playlist; `llhls version` says which version it is.
 #![tactic(auto)]
@@ -9,6 +9,7 @@ ghost use Rattle.std.specs.Prelude.{◌≡◌, IfErr};
 ghost use Rattle.ll_replay.specs.declared.outcome.RunFault.{RunFault};
 
 mod calendar;
+mod doors;
 mod multivariant;
 mod push;
 mod restoring;
@@ -21,20 +22,18 @@ use crate::push::{publish, publish_job};
 use crate::serve::serve;
 use crate::stop::Stop;
 use crate::words::words;
-use ll_announce::Names;
 use ll_attr::Text;
 use ll_command::{
-    Command, Fault, Plan, fault_of, run_script, write_applied, write_checked, write_explained,
-    write_summary, write_upgraded, write_version,
+    Command, Fault, Plan, fault_of, run_script, secret_line, write_applied, write_checked,
+    write_explained, write_summary, write_upgraded, write_version,
 };
-use ll_device::{CountedReader, CountedWriter};
+use ll_device::{Address, CountedReader, CountedWriter};
 use ll_origins::Job;
 use ll_push::Ending as Published;
 use std::alloc::Global;
 use std::fs::File;
 use std::io::IsTerminal;
 use std::marker::Brand;
-use std::net::SocketAddrV4;
 use std::process::ExitCode;
 use std::sync::ledger::{Blank, Ledger};
 use std::{fs, io};
@@ -130,13 +129,8 @@ fn called(rt: &HostRuntime) -> Result<Ending, Fault> {
             channel,
             rendition,
             plan,
-        } => publish_input(
-            rt,
-            address.as_str(),
-            channel.as_str(),
-            rendition.as_str(),
-            plan,
-        ),
+            secret,
+        } => publish_input(rt, job_of(rt, address, channel, rendition, plan, secret)?),
     }
 }
 
@@ -193,38 +187,51 @@ fn ending_of(right: bool) -> Ending {
     }
 }
 
-/// Publishes what an encoder writes to standard input, or leaves that to `main` if there are several addresses.
-fn publish_input(
+/// Returns what is published, and where, according to the words of a push.
+fn job_of(
     rt: &HostRuntime,
-    addresses: &str,
-    channel: &str,
-    rendition: &str,
+    addresses: &Text,
+    channel: &Text,
+    rendition: &Text,
     plan: Plan,
-) -> Result<Ending, Fault> {
-    let mut addresses = addresses_in(rt.alloc(), addresses)?;
-    if addresses.len() > 1 {
-        return Ok(Ending::Push(Job {
-            addresses,
-            channel: Text::from_str(rt.alloc(), channel)?,
-            rendition: Text::from_str(rt.alloc(), rendition)?,
-            plan,
-        }));
+    secret: Option<&str>,
+) -> Result<Job, Fault> {
+    let addresses = addresses_in(rt.alloc(), addresses.as_str())?;
+    let greeting = match secret {
+        Some(path) => {
+            let file = read_file(rt, path)?;
+            Some(secret_line(rt.alloc(), channel.as_str(), &file)?)
+        }
+        None => None,
+    };
+    Ok(Job {
+        addresses,
+        channel: channel.copy()?,
+        rendition: rendition.copy()?,
+        plan,
+        greeting,
+    })
+}
+
+/// Publishes what an encoder writes to standard input, or leaves that to `main` if there are several addresses.
+fn publish_input(rt: &HostRuntime, job: Job) -> Result<Ending, Fault> {
+    if job.addresses.len() > 1 {
+        return Ok(Ending::Push(job));
     }
-    let Some(address) = addresses.pop() else {
+    let Some(address) = job.addresses.first() else {
         return Err(Fault::Usage);
     };
-    let names = Names { channel, rendition };
-    match publish::<Brand, Brand>(rt, address, names, plan, Blank::new(2), Blank::new(2))? {
+    match publish::<Brand, Brand>(rt, address, &job, Blank::new(2), Blank::new(2))? {
         Published::Whole => Ok(Ending::Done),
         Published::Refused(answer) => Ok(Ending::Refused(answer)),
     }
 }
 
 /// Parses one or more addresses with commas between them, at most four, none twice. Others are wrong usage.
-fn addresses_in(alloc: Global, text: &str) -> Result<Vec<SocketAddrV4>, Fault> {
+fn addresses_in(alloc: Global, text: &str) -> Result<Vec<Address>, Fault> {
     let mut addresses = Vec::new(alloc);
     for word in text.split(',') {
-        let Ok(address) = word.parse::<SocketAddrV4>() else {
+        let Some(address) = Address::parse(alloc, word)? else {
             return Err(Fault::Usage);
         };
         if addresses.len() == ORIGINS || addresses.contains(&address) {

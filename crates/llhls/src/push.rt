@@ -2,14 +2,13 @@
 ghost use Rattle.std.specs.Prelude.{◌≡◌};
 
 use crate::calendar::SystemCalendar;
-use ll_announce::Names;
-use ll_command::{Fault, Plan};
-use ll_device::{Connector, CountedReader};
+use ll_command::Fault;
+use ll_device::{Address, Connector, CountedReader};
 use ll_origins::{Job, Meter, publish_at_all};
 use ll_push::{Ending, Target, push};
 use std::alloc::Global;
 use std::io::{self, IsTerminal};
-use std::net::{Net, SocketAddrV4, TcpListener, TcpStream};
+use std::net::{Net, TcpListener, TcpStream};
 use std::sync::Wait;
 use std::sync::ledger::{Blank, Ledger};
 use std::thread::Threads;
@@ -21,12 +20,11 @@ fn keep_freed_memory(alloc: Global) {
     let _ = Vec::<u8>::with_capacity(alloc, 16_777_216);
 }
 
-/// Publishes what an encoder writes to standard input, at `address`. Each blank has two parts, one for each count.
+/// Publishes what an encoder writes to standard input, at `address` according to `job`. Each blank has two parts, one for each count.
 pub(crate) fn publish<L: Ledger, M: Ledger>(
     rt: &HostRuntime,
-    address: SocketAddrV4,
-    names: Names<'_>,
-    plan: Plan,
+    address: &Address,
+    job: &Job,
     reads: Blank,
     times: Blank,
 ) -> Result<Ending, Fault>
@@ -39,10 +37,12 @@ pub(crate) fn publish<L: Ledger, M: Ledger>(
 {
     let mut source: CountedReader<io::Stdin, L> = CountedReader::new(rt.stdin(), reads);
     let mut clock: SystemCalendar<'_, HostRuntime, M> = SystemCalendar::new(rt, times);
-    let mut origin = Connector::new(rt, address, Duration::from_secs(plan.retry));
+    let plan = job.plan;
+    let retry = Duration::from_secs(plan.retry);
+    let mut origin = Connector::new(rt, address, job.greeting(), retry);
     let mut meter = Meter::new(rt, rt.stderr().is_terminal());
     let target = Target {
-        names,
+        names: job.names(),
         lengths: plan.lengths,
         ends: plan.ends,
     };

@@ -2,6 +2,7 @@
 ghost use denote.Param.Send.{IsSend};
 ghost use Rattle.std.specs.Prelude.{◌≡◌, ◌≤◌, ◌^◌, length};
 
+use crate::doors::{Doors, IDLE, Listeners, publish_door};
 use crate::restoring::{Spools, push, restore_all};
 use crate::stop::Stop;
 use ll_command::Fault;
@@ -17,7 +18,7 @@ use ll_spool::Disk;
 use std::alloc::{AllocError, Global};
 use std::fs::File;
 use std::marker::Brand;
-use std::net::{Net, SocketAddrV4, TcpListener, TcpStream};
+use std::net::{Net, SocketAddr, TcpListener, TcpStream};
 use std::rt::Files;
 use std::sync::Wait;
 use std::thread::Threads;
@@ -26,9 +27,6 @@ use std::{thread, time};
 
 /// The time between two readings of the clock that the channels take, in milliseconds.
 const TICK: u64 = 250;
-
-/// How long a player may be idle before its connection is closed, in seconds.
-const IDLE: u64 = 30;
 
 /// The number of readings after which the records are handed out, if they are kept: every 10 seconds. What wasn't handed out when the
 /// server stops is lost.
@@ -93,14 +91,19 @@ pub(crate) fn serve<
 /// Serves the channels of `config`, whose spools have the files `files`. Then ends the queue of the records.
 fn serve_channels<
     R: Net<Listener = TcpListener, Stream = TcpStream>
+        + Files
         + Eprint
         + time::Clock
         + Threads
         + Wait
         + Sync,
 >(server: &Server<'_, R>, config: Config, files: Vec<SpoolFiles<'_, R>>) -> Result<(), Stop> {
-    let addresses = (config.players, config.publishers);
-    let done = host::<Brand, R>(server, config.channels, Blanks::new(), addresses, files);
+    let doors = Doors {
+        players: SocketAddr::V4(config.players),
+        publishers: publish_door(config.publishers),
+        idle: None,
+    };
+    let done = host::<Brand, R>(server, config.channels, Blanks::new(), doors, files);
     server.records.end();
     done
 }
@@ -131,18 +134,6 @@ fn read_config(alloc: Global, settings: &[u8]) -> Result<Config, Fault> {
         Ok(config) => Ok(config),
         Err(ConfigFault::BadLine(line)) => Err(Fault::BadLine(line)),
         Err(ConfigFault::Memory) => Err(Fault::Memory),
-    }
-}
-
-/// Listens at `address`.
-fn open_listener<'a, R: Net<Listener = TcpListener, Stream = TcpStream>>(
-    rt: &'a R,
-    address: SocketAddrV4,
-    role: Role,
-) -> Result<Listener<'a, R>, Fault> {
-    match Listener::open(rt, address, role) {
-        Ok(listener) => Ok(listener),
-        Err(_) => Err(Fault::Listen),
     }
 }
 
@@ -185,38 +176,30 @@ struct Opened<'a, L: Ledgers, R> {
     spools: Spools<'a, R>,
     /// The pass with which the spools' items were published.
     pass: Pass<L>,
-    players: Listener<'a, R>,
-    publishers: Listener<'a, R>,
+    listeners: Listeners<'a, R>,
 }
 
-/// Publishes the items of the spools whose files are `files`, and then opens the ports of players and publishers at `addresses`, and says
-/// on standard error where they are.
-fn open<'a, L: Ledgers, R: Net<Listener = TcpListener, Stream = TcpStream> + Eprint + Wait>(
+/// Publishes the items of the spools whose files are `files`, and then opens `doors`, and says on standard error where they are.
+fn open<'a, L: Ledgers, R: Net<Listener = TcpListener, Stream = TcpStream> + Files + Eprint + Wait>(
     server: &'a Server<'_, R>,
     hub: &'a Hub<L>,
-    addresses: (SocketAddrV4, SocketAddrV4),
+    doors: &Doors,
     files: Vec<SpoolFiles<'a, R>>,
 ) -> Result<Opened<'a, L, R>, Stop> {
     let (spools, pass) = restore_all(server.rt, server.alloc, hub, &server.records, files)?;
-    let players = open_listener(server.rt, addresses.0, Role::Player)?;
-    let publishers = open_listener(server.rt, addresses.1, Role::Publisher)?;
-    let (Ok(asked), Ok(told)) = (players.address(), publishers.address()) else {
-        return Err(Stop::Fault(Fault::Listen));
-    };
-    let _ = eprintln!(server.rt; "llhls: players on {asked}");
-    let _ = eprintln!(server.rt; "llhls: publishers on {told}");
+    let listeners = doors.open(server.rt, server.alloc)?;
     Ok(Opened {
         spools,
         pass,
-        players,
-        publishers,
+        listeners,
     })
 }
 
-/// Serves `channels` to those who connect at `addresses`, once the items of the spools whose files are `files` are published.
+/// Serves `channels` to those who connect at `doors`, once the items of the spools whose files are `files` are published.
 fn host<
     L: Ledgers + Send + Sync,
     R: Net<Listener = TcpListener, Stream = TcpStream>
+        + Files
         + Eprint
         + time::Clock
         + Threads
@@ -226,7 +209,7 @@ fn host<
     server: &Server<'_, R>,
     channels: Vec<Settings>,
     blanks: Blanks,
-    addresses: (SocketAddrV4, SocketAddrV4),
+    doors: Doors,
     files: Vec<SpoolFiles<'_, R>>,
 ) -> Result<(), Stop>
     requires some { 1 ≤ length channels.items }
@@ -241,7 +224,7 @@ fn host<
     let Ok(hub) = Hub::<L>::new(server.alloc, channels, blanks) else {
         return Err(Stop::Fault(Fault::Memory));
     };
-    match (&*server).host_on(&hub, &bells, addresses, files) {
+    match (&*server).host_on(&hub, &bells, doors, files) {
         Ok((passes, all)) => match hub.finish(passes) {
             Ok(_) if all => Ok(()),
             _ => Err(Stop::Fault(Fault::Memory)),
@@ -269,27 +252,27 @@ type Served<L> = (Vec<Pass<L>>, Option<HubFault>);
 
 impl<
     R: Net<Listener = TcpListener, Stream = TcpStream>
+        + Files
         + Eprint
         + time::Clock
         + Threads
         + Wait
         + Sync,
 > Server<'_, R> {
-    /// Publishes the items of the spools whose files are `files`, opens the ports at `addresses`, and serves who connects there. Returns
-    /// the passes, and whether they are all there.
+    /// Publishes the items of the spools whose files are `files`, opens `doors`, and serves who connects there. Returns the passes, and
+    /// whether they are all there.
     fn host_on<'a, L: Ledgers + Send + Sync>(
         &'a self,
         hub: &'a Hub<L>,
         bells: &'a Bells,
-        addresses: (SocketAddrV4, SocketAddrV4),
+        doors: Doors,
         files: Vec<SpoolFiles<'a, R>>,
     ) -> Result<(Vec<Pass<L>>, bool), Stop> {
         let Opened {
             spools,
             pass,
-            mut players,
-            mut publishers,
-        } = open(self, hub, addresses, files)?;
+            listeners,
+        } = open(self, hub, &doors, files)?;
         let service = Service {
             rt: self.rt,
             alloc: self.alloc,
@@ -300,6 +283,10 @@ impl<
             hub,
             spools: &spools,
         };
+        let Listeners {
+            mut players,
+            mut publishers,
+        } = listeners;
         let (served, fed) = self.work(&service, &mut players, &mut publishers, bells);
         let (mut passes, served) = served;
         let (more, fed) = fed;
