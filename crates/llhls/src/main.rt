@@ -13,7 +13,9 @@ mod multivariant;
 mod push;
 mod restoring;
 mod serve;
+mod status;
 mod stop;
+mod watch;
 mod words;
 
 use crate::multivariant::multivariant;

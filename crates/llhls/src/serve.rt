@@ -1,9 +1,11 @@
 //! Runs the server: serves players and publishers, and keeps the channels' time, records and numbers.
 ghost use denote.Param.Send.{IsSend};
-ghost use Rattle.std.specs.Prelude.{◌≡◌, ◌≤◌, ◌^◌, length};
+ghost use Rattle.std.specs.Prelude.{◌≡◌, ◌≤◌, length};
 
 use crate::restoring::{Spools, push, restore_all};
+use crate::status::{open_status, say_status, serve_status, status_address};
 use crate::stop::Stop;
+use crate::watch::Watch;
 use ll_command::Fault;
 use ll_config::{CHANNELS, Config, ConfigFault, Workers};
 use ll_counts::Numbers;
@@ -14,10 +16,11 @@ use ll_hub::{Bell, Blanks, Clock, Hub, HubFault, Ledgers, Pass, Sink};
 use ll_serve::{Bells, Gate, Role, Service, serve_links, serve_players};
 use ll_settings::Settings;
 use ll_spool::Disk;
+use ll_status::StatusPort;
 use std::alloc::{AllocError, Global};
 use std::fs::File;
 use std::marker::Brand;
-use std::net::{Net, SocketAddrV4, TcpListener, TcpStream};
+use std::net::{Net, SocketAddr, SocketAddrV4, TcpListener, TcpStream};
 use std::rt::Files;
 use std::sync::Wait;
 use std::thread::Threads;
@@ -37,25 +40,6 @@ const TICKS: u64 = 40;
 /// The number of hand-outs after which the numbers of the channels are written, if they are kept: every minute.
 const ROUNDS: u64 = 6;
 
-/// A clock that shows the time since the server's start.
-#[derive(Drop)]
-struct Watch<'a, R> {
-    rt: &'a R,
-    start: Instant,
-}
-
-impl<R: time::Clock> Clock for Watch<'_, R> {
-    ghost shows = { λ w ms. ms ≤ 2 ^ 60 };
-
-    /// Returns the milliseconds since the start, at most 2^60. If the clock can't be read, it is 0, which changes no channel's time.
-    fn now(&self) -> u64 {
-        match self.start.elapsed(self.rt) {
-            Ok(time) => time.as_millis().min(1 << 60) as u64,
-            Err(_) => 0,
-        }
-    }
-}
-
 /// A server without its channels.
 #[derive(Drop)]
 struct Server<'a, R> {
@@ -63,8 +47,9 @@ struct Server<'a, R> {
     alloc: Global,
     watch: Watch<'a, R>,
     records: Records<'a, R>,
-    numbers: Numbers,
+    numbers: Numbers<'a, R>,
     log: Log<'a, R>,
+    status: Option<SocketAddr>,
     workers: Workers,
 }
 
@@ -174,7 +159,8 @@ fn server_from<'a, R: Files<File = File> + Eprint>(
         watch: Watch { rt, start },
         records: Records::open(rt, alloc, config.record.as_ref(), &config.channels)?,
         log: Log::open(rt, alloc, config.log.as_ref())?,
-        numbers: Numbers::new(alloc, &config.channels)?,
+        numbers: Numbers::new(rt, alloc, start, &config.channels)?,
+        status: status_address(config),
         workers: config.workers,
     })
 }
@@ -187,29 +173,38 @@ struct Opened<'a, L: Ledgers, R> {
     pass: Pass<L>,
     players: Listener<'a, R>,
     publishers: Listener<'a, R>,
+    status: Option<StatusPort<'a, R>>,
 }
 
-/// Publishes the items of the spools whose files are `files`, and then opens the ports of players and publishers at `addresses`, and says
-/// on standard error where they are.
-fn open<'a, L: Ledgers, R: Net<Listener = TcpListener, Stream = TcpStream> + Eprint + Wait>(
-    server: &'a Server<'_, R>,
+/// Publishes the items of the spools whose files are `files`, and then opens the ports of players and publishers at `addresses` and the
+/// status port, and says on standard error where they are.
+fn open<
+    'a,
+    L: Ledgers,
+    R: Net<Listener = TcpListener, Stream = TcpStream> + Eprint + time::Clock + Wait,
+>(
+    server: &'a Server<'a, R>,
     hub: &'a Hub<L>,
     addresses: (SocketAddrV4, SocketAddrV4),
     files: Vec<SpoolFiles<'a, R>>,
 ) -> Result<Opened<'a, L, R>, Stop> {
-    let (spools, pass) = restore_all(server.rt, server.alloc, hub, &server.records, files)?;
-    let players = open_listener(server.rt, addresses.0, Role::Player)?;
-    let publishers = open_listener(server.rt, addresses.1, Role::Publisher)?;
+    let (rt, numbers) = (server.rt, &server.numbers);
+    let (spools, pass) = restore_all(rt, server.alloc, hub, &server.records, numbers, files)?;
+    let players = open_listener(rt, addresses.0, Role::Player)?;
+    let publishers = open_listener(rt, addresses.1, Role::Publisher)?;
+    let status = open_status(rt, server.alloc, server.status)?;
     let (Ok(asked), Ok(told)) = (players.address(), publishers.address()) else {
         return Err(Stop::Fault(Fault::Listen));
     };
-    let _ = eprintln!(server.rt; "llhls: players on {asked}");
-    let _ = eprintln!(server.rt; "llhls: publishers on {told}");
+    let _ = eprintln!(rt; "llhls: players on {asked}");
+    let _ = eprintln!(rt; "llhls: publishers on {told}");
+    say_status(rt, &status);
     Ok(Opened {
         spools,
         pass,
         players,
         publishers,
+        status,
     })
 }
 
@@ -289,6 +284,7 @@ impl<
             pass,
             mut players,
             mut publishers,
+            mut status,
         } = open(self, hub, addresses, files)?;
         let service = Service {
             rt: self.rt,
@@ -300,7 +296,13 @@ impl<
             hub,
             spools: &spools,
         };
-        let (served, fed) = self.work(&service, &mut players, &mut publishers, bells);
+        let ((), (served, fed)) = thread::join(
+            self.rt,
+            || serve_status(&mut status, &self.numbers),
+            ||
+                requires { IsSend L.row }
+            { self.work(&service, &mut players, &mut publishers, bells) },
+        );
         let (mut passes, served) = served;
         let (more, fed) = fed;
         let mut all = served.is_none() && fed.is_none();
