@@ -1,47 +1,42 @@
-//! Where a server's players and publishers connect.
-use ll_attr::Text;
+//! Where those connect whom a server serves, and who of them may publish.
+use crate::status::{open_status, say_status};
 use ll_command::Fault;
+use ll_config::Door;
 use ll_device::{Failed, Listener};
+use ll_door::Digest;
 use ll_serve::Role;
+use ll_status::StatusPort;
 use std::alloc::Global;
-use std::net::{Net, SocketAddr, SocketAddrV4, TcpListener, TcpStream};
+use std::net::{Net, SocketAddr, TcpListener, TcpStream};
 use std::rt::Files;
 use std::time::Duration;
 
 /// How long a player may be idle before its connection is closed, in seconds.
 pub(crate) const IDLE: u64 = 30;
 
-/// Where publishers connect.
-#[derive(Drop)]
-pub(crate) enum Door {
-    Tcp(SocketAddr),
-    /// The path of a socket file.
-    Unix(Text),
-}
-
-/// Returns the door of publishers at `address`.
-pub(crate) fn publish_door(address: SocketAddrV4) -> Door {
-    Door::Tcp(SocketAddr::V4(address))
-}
-
-/// Where players and publishers connect.
+/// Where players, publishers and those who watch the server connect, and who may publish.
 #[derive(Drop)]
 pub(crate) struct Doors {
     pub(crate) players: SocketAddr,
     pub(crate) publishers: Door,
     /// How long a publisher may send nothing before its connection is closed, in seconds; without it forever.
     pub(crate) idle: Option<u64>,
+    /// The status port.
+    pub(crate) status: Option<SocketAddr>,
+    /// The digest of each channel's secret, if it has one.
+    pub(crate) secrets: Vec<Option<Digest>>,
 }
 
-/// The listeners of players and of publishers.
+/// The ports of players, of publishers and of those who watch the server.
 #[derive(Drop)]
 pub(crate) struct Listeners<'a, R> {
     pub(crate) players: Listener<'a, R>,
     pub(crate) publishers: Listener<'a, R>,
+    pub(crate) status: Option<StatusPort<'a, R>>,
 }
 
 impl Doors {
-    /// Listens for players and publishers, and says on standard error where.
+    /// Listens at all of these, and says on standard error where.
     pub(crate) fn open<'a, R: Net<Listener = TcpListener, Stream = TcpStream> + Files + Eprint>(
         &self,
         rt: &'a R,
@@ -63,15 +58,18 @@ impl Doors {
         let players = Listener::open(rt, self.players, Role::Player, patience)?;
         let patience = self.idle.map(Duration::from_secs);
         let publishers = match &self.publishers {
-            Door::Tcp(address) => Listener::open(rt, *address, Role::Publisher, patience)?,
+            Door::Ip(address) => Listener::open(rt, *address, Role::Publisher, patience)?,
             Door::Unix(path) => Listener::open_unix(rt, alloc, path.as_str(), patience)?,
         };
+        let status = open_status(rt, alloc, self.status)?;
         let (asked, told) = (players.place()?, publishers.place()?);
         let _ = eprintln!(rt; "llhls: players on {asked}");
         let _ = eprintln!(rt; "llhls: publishers on {told}");
+        say_status(rt, &status);
         Ok(Listeners {
             players,
             publishers,
+            status,
         })
     }
 }

@@ -14,7 +14,9 @@ mod multivariant;
 mod push;
 mod restoring;
 mod serve;
+mod status;
 mod stop;
+mod watch;
 mod words;
 
 use crate::multivariant::multivariant;

@@ -3,6 +3,7 @@ ghost use Rattle.std.specs.Prelude.{None};
 
 use crate::stop::Stop;
 use ll_command::Fault;
+use ll_counts::Numbers;
 use ll_files::SpoolFiles;
 use ll_hub::{Bell, Hub, HubFault, Ledgers, Pass, RoomFault, Sink};
 use ll_item::Item;
@@ -10,6 +11,7 @@ use ll_spool::{Accepts, RestoreFault, Spool, restore};
 use ll_verdict::PublishFault;
 use std::alloc::{AllocError, Global};
 use std::sync::{Mutex, Wait};
+use std::time::Clock;
 
 /// The number of items after which a channel's record is handed out: as many as it holds.
 const RECORD: u64 = 65_536;
@@ -30,14 +32,16 @@ struct Restored<'a, L: Ledgers, K: Drop, R> {
     hub: &'a Hub<L>,
     pass: Pass<L>,
     sink: K,
+    numbers: &'a Numbers<'a, R>,
     /// The channel's place in the hub.
     place: usize,
 }
 
-impl<L: Ledgers, K: Sink + Drop, R: Wait> Accepts for Restored<'_, L, K, R> {
+impl<L: Ledgers, K: Sink + Drop, R: Wait + Clock> Accepts for Restored<'_, L, K, R> {
     ghost accepted = { λ _. None };
 
     fn accept(&mut self, item: Item) -> Result<Option<u64>, AllocError> {
+        self.numbers.restored(self.place, &item);
         let published = self
             .hub
             .publish(self.rt, &mut Silent, &mut self.pass, self.place, item);
@@ -62,7 +66,7 @@ impl<L: Ledgers, K: Sink + Drop, R: Wait> Accepts for Restored<'_, L, K, R> {
     }
 }
 
-impl<'a, L: Ledgers, K: Sink + Drop, R: Eprint + Wait> Restored<'a, L, K, R> {
+impl<'a, L: Ledgers, K: Sink + Drop, R: Eprint + Wait + Clock> Restored<'a, L, K, R> {
     /// Publishes the items of the spool whose files are `files`, and says on standard error how many they are, or which line can't stand.
     fn restore(&mut self, files: SpoolFiles<'a, R>) -> Result<Spool<SpoolFiles<'a, R>>, Stop> {
         let (rt, hub) = (self.rt, self.hub);
@@ -93,11 +97,12 @@ pub(crate) type Spools<'a, R> = Vec<Mutex<Spool<SpoolFiles<'a, R>>>>;
 
 /// Publishes the items of the spools whose files are `files`, one for each channel in order, or none, and makes these ready for further
 /// items. Nothing is written unless all can stand. Returns the spools, and the pass with which their items were published.
-pub(crate) fn restore_all<'a, L: Ledgers, K: Sink + Drop, R: Eprint + Wait>(
+pub(crate) fn restore_all<'a, L: Ledgers, K: Sink + Drop, R: Eprint + Wait + Clock>(
     rt: &'a R,
     alloc: Global,
     hub: &'a Hub<L>,
     sink: K,
+    numbers: &'a Numbers<'a, R>,
     files: Vec<SpoolFiles<'a, R>>,
 ) -> Result<(Spools<'a, R>, Pass<L>), Stop> {
     let Ok(pass) = hub.seat(rt) else {
@@ -109,6 +114,7 @@ pub(crate) fn restore_all<'a, L: Ledgers, K: Sink + Drop, R: Eprint + Wait>(
         hub,
         pass,
         sink,
+        numbers,
         place: 0,
     };
     let mut restored = Vec::new(alloc);

@@ -1,10 +1,12 @@
 //! Runs the server: serves players and publishers, and keeps the channels' time, records and numbers.
 ghost use denote.Param.Send.{IsSend};
-ghost use Rattle.std.specs.Prelude.{◌≡◌, ◌≤◌, ◌^◌, length};
+ghost use Rattle.std.specs.Prelude.{◌≡◌, ◌≤◌, length};
 
-use crate::doors::{Doors, IDLE, Listeners, publish_door};
+use crate::doors::{Doors, IDLE, Listeners};
 use crate::restoring::{Spools, push, restore_all};
+use crate::status::serve_status;
 use crate::stop::Stop;
+use crate::watch::Watch;
 use ll_command::Fault;
 use ll_config::{CHANNELS, Config, ConfigFault, Workers};
 use ll_counts::Numbers;
@@ -18,7 +20,7 @@ use ll_spool::Disk;
 use std::alloc::{AllocError, Global};
 use std::fs::File;
 use std::marker::Brand;
-use std::net::{Net, SocketAddr, TcpListener, TcpStream};
+use std::net::{Net, TcpListener, TcpStream};
 use std::rt::Files;
 use std::sync::Wait;
 use std::thread::Threads;
@@ -35,25 +37,6 @@ const TICKS: u64 = 40;
 /// The number of hand-outs after which the numbers of the channels are written, if they are kept: every minute.
 const ROUNDS: u64 = 6;
 
-/// A clock that shows the time since the server's start.
-#[derive(Drop)]
-struct Watch<'a, R> {
-    rt: &'a R,
-    start: Instant,
-}
-
-impl<R: time::Clock> Clock for Watch<'_, R> {
-    ghost shows = { λ w ms. ms ≤ 2 ^ 60 };
-
-    /// Returns the milliseconds since the start, at most 2^60. If the clock can't be read, it is 0, which changes no channel's time.
-    fn now(&self) -> u64 {
-        match self.start.elapsed(self.rt) {
-            Ok(time) => time.as_millis().min(1 << 60) as u64,
-            Err(_) => 0,
-        }
-    }
-}
-
 /// A server without its channels.
 #[derive(Drop)]
 struct Server<'a, R> {
@@ -61,7 +44,7 @@ struct Server<'a, R> {
     alloc: Global,
     watch: Watch<'a, R>,
     records: Records<'a, R>,
-    numbers: Numbers,
+    numbers: Numbers<'a, R>,
     log: Log<'a, R>,
     workers: Workers,
 }
@@ -98,12 +81,15 @@ fn serve_channels<
         + Wait
         + Sync,
 >(server: &Server<'_, R>, config: Config, files: Vec<SpoolFiles<'_, R>>) -> Result<(), Stop> {
+    let (channels, secrets) = config.hosted.into_parts();
     let doors = Doors {
-        players: SocketAddr::V4(config.players),
-        publishers: publish_door(config.publishers),
-        idle: None,
+        players: config.players,
+        publishers: config.publishers,
+        idle: config.idle,
+        status: config.status,
+        secrets,
     };
-    let done = host::<Brand, R>(server, config.channels, Blanks::new(), doors, files);
+    let done = host::<Brand, R>(server, channels, Blanks::new(), doors, files);
     server.records.end();
     done
 }
@@ -115,10 +101,10 @@ fn open_spools<'a, R: Files<File = File> + Eprint>(
     config: &Config,
 ) -> Result<Vec<SpoolFiles<'a, R>>, Stop> {
     let mut files = Vec::new(alloc);
-    let Some(directory) = &config.spool else {
+    let Some(directory) = &config.files.spool else {
         return Ok(files);
     };
-    for settings in &config.channels {
+    for settings in config.hosted.channels() {
         match SpoolFiles::open(rt, alloc, directory, settings) {
             Ok(Ok(opened)) => push(&mut files, opened)?,
             Ok(Err(Unusable)) => return Err(Stop::Spool(4)),
@@ -159,13 +145,14 @@ fn server_from<'a, R: Files<File = File> + Eprint>(
     config: &Config,
     start: Instant,
 ) -> Result<Server<'a, R>, AllocError> {
+    let (files, channels) = (&config.files, config.hosted.channels());
     Ok(Server {
         rt,
         alloc,
         watch: Watch { rt, start },
-        records: Records::open(rt, alloc, config.record.as_ref(), &config.channels)?,
-        log: Log::open(rt, alloc, config.log.as_ref())?,
-        numbers: Numbers::new(alloc, &config.channels)?,
+        records: Records::open(rt, alloc, files.records.as_ref(), channels)?,
+        log: Log::open(rt, alloc, files.log.as_ref())?,
+        numbers: Numbers::new(rt, alloc, start, channels)?,
         workers: config.workers,
     })
 }
@@ -180,14 +167,19 @@ struct Opened<'a, L: Ledgers, R> {
 }
 
 /// Publishes the items of the spools whose files are `files`, and then opens `doors`, and says on standard error where they are.
-fn open<'a, L: Ledgers, R: Net<Listener = TcpListener, Stream = TcpStream> + Files + Eprint + Wait>(
-    server: &'a Server<'_, R>,
+fn open<
+    'a,
+    L: Ledgers,
+    R: Net<Listener = TcpListener, Stream = TcpStream> + Files + Eprint + time::Clock + Wait,
+>(
+    server: &'a Server<'a, R>,
     hub: &'a Hub<L>,
     doors: &Doors,
     files: Vec<SpoolFiles<'a, R>>,
 ) -> Result<Opened<'a, L, R>, Stop> {
-    let (spools, pass) = restore_all(server.rt, server.alloc, hub, &server.records, files)?;
-    let listeners = doors.open(server.rt, server.alloc)?;
+    let (rt, numbers) = (server.rt, &server.numbers);
+    let (spools, pass) = restore_all(rt, server.alloc, hub, &server.records, numbers, files)?;
+    let listeners = doors.open(rt, server.alloc)?;
     Ok(Opened {
         spools,
         pass,
@@ -282,12 +274,20 @@ impl<
             bell: &bells,
             hub,
             spools: &spools,
+            secrets: &doors.secrets,
         };
         let Listeners {
             mut players,
             mut publishers,
+            mut status,
         } = listeners;
-        let (served, fed) = self.work(&service, &mut players, &mut publishers, bells);
+        let ((), (served, fed)) = thread::join(
+            self.rt,
+            || serve_status(&mut status, &self.numbers),
+            ||
+                requires { IsSend L.row }
+            { self.work(&service, &mut players, &mut publishers, bells) },
+        );
         let (mut passes, served) = served;
         let (more, fed) = fed;
         let mut all = served.is_none() && fed.is_none();

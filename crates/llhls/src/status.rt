@@ -1,0 +1,41 @@
+//! The status port of a server, if its settings have one.
+use ll_counts::Numbers;
+use ll_device::Failed;
+use ll_status::StatusPort;
+use std::alloc::Global;
+use std::net::{Net, SocketAddr, TcpListener, TcpStream};
+use std::sync::Wait;
+use std::time::Clock;
+
+/// Listens at `address`, if there is one.
+pub(crate) fn open_status<'a, R: Net<Listener = TcpListener, Stream = TcpStream>>(
+    rt: &'a R,
+    alloc: Global,
+    address: Option<SocketAddr>,
+) -> Result<Option<StatusPort<'a, R>>, Failed> {
+    let Some(address) = address else {
+        return Ok(None);
+    };
+    match StatusPort::open(rt, alloc, address) {
+        Ok(port) => Ok(Some(port)),
+        Err(_) => Err(Failed),
+    }
+}
+
+/// Says on standard error where the status port is, if there is one.
+pub(crate) fn say_status<R: Eprint>(rt: &R, status: &Option<StatusPort<'_, R>>) {
+    if let Some(port) = status {
+        let address = port.address();
+        let _ = eprintln!(rt; "llhls: status on {address}");
+    }
+}
+
+/// Serves those who connect at the status port, if there is one, from `numbers`.
+pub(crate) fn serve_status<R: Clock + Eprint + Wait>(
+    status: &mut Option<StatusPort<'_, R>>,
+    numbers: &Numbers<'_, R>,
+) {
+    if let Some(port) = status {
+        port.serve(numbers);
+    }
+}
