@@ -45,14 +45,14 @@ impl<L: Ledgers, C, G, K, D, B, R> Service<'_, L, C, G, K, D, B, R> {
         ensures { passage_of result ≡ spec.passage (origin self.now.hub.now self.now.secrets.now) opened.now (meant line.now) }
     {
         match line {
-            Line::Item(name, text, _) => self.passage_of(opened, name, secret_in(text)),
-            Line::At(name, _) => self.passage_of(opened, name, None),
+            Line::Item(name, text, _) => self.at_door(opened, name, secret_in(text)),
+            Line::At(name, _) => self.at_door(opened, name, None),
             Line::Bad | Line::TooLong | Line::MediaTooLong => Passage::Passes,
         }
     }
 
     /// Returns what becomes of a line for the channel named `name` that gives the word `word`, or none.
-    fn passage_of(&self, opened: &[usize], name: &str, word: Option<&str>) -> Passage
+    fn at_door(&self, opened: &[usize], name: &str, word: Option<&str>) -> Passage
         ensures { passage_of result ≡ passage_at self.now.secrets.now opened.now (option_map (λ w. w.now) word) (channel_of_name self.now.hub.now 0 name.now) }
     {
         match self.hub.find(name) {

@@ -114,7 +114,11 @@ fn told(alloc: Global, file: &str) -> Result<String, AllocError> {
 
 fn push_config(told: &mut String, config: &Config) -> Result<(), AllocError> {
     let (players, publishers, count) = (config.players, &config.publishers, config.workers.count);
-    let records = config.files.records.as_ref().map_or("-", |path| path.as_str());
+    let records = config
+        .files
+        .records
+        .as_ref()
+        .map_or("-", |path| path.as_str());
     let log = config.files.log.as_ref().map_or("-", |path| path.as_str());
     write!(told, "{players} ")?;
     match publishers {

@@ -23,7 +23,10 @@ pub(crate) fn open_status<'a, R: Net<Listener = TcpListener, Stream = TcpStream>
 }
 
 /// Says on standard error where the status port is, if there is one.
-pub(crate) fn say_status<R: Eprint>(rt: &R, status: &Option<StatusPort<'_, R>>) {
+pub(crate) fn say_status<R: Net<Listener = TcpListener, Stream = TcpStream> + Eprint>(
+    rt: &R,
+    status: &Option<StatusPort<'_, R>>,
+) {
     if let Some(port) = status {
         let address = port.address();
         let _ = eprintln!(rt; "llhls: status on {address}");
