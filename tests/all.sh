@@ -67,7 +67,7 @@ proofs=$!
 until grep -Eqs '^rt: llhls (proved$|is kept: )' "$room/proofs" || [ -e "$room/proofs.status" ]; do
     sleep 1
 done
-for name in doors.py log.py pair.py push.py record.py spool.py status.py; do
+for name in allowed.py doors.py log.py pair.py push.py record.py spool.py status.py; do
     begin "tests/$name" "$program"
     waiting=$((waiting + 1))
 done
