@@ -95,7 +95,8 @@ impl Peer {
         match done(self.stream.read(&mut piece[..room])) {
             Some(0) => self.state = State::Over,
             Some(count) => {
-                if bytes.extend_from_slice(&piece[..count]).is_err() {
+                let came = piece.get(..count).unwrap_or(&[]);
+                if bytes.extend_from_slice(came).is_err() {
                     self.state = State::Over;
                     return;
                 }

@@ -49,7 +49,9 @@ impl<'a, R: Net<Listener = TcpListener, Stream = TcpStream>> StatusPort<'a, R> {
             told: false,
         })
     }
+}
 
+impl<R> StatusPort<'_, R> {
     /// Returns the address that it listens at.
     pub fn address(&self) -> SocketAddr {
         self.address
@@ -60,36 +62,50 @@ impl<R: Clock + Eprint + Wait> StatusPort<'_, R> {
     /// Answers who connects, from `numbers`.
     pub fn serve(&mut self, numbers: &Numbers<'_, R>) {
         for _ in self.rt.forever() {
-            let now = numbers.now();
-            self.peers.retain(|peer| !peer.is_over(now));
-            if self.wait(numbers, now) {
-                self.accept(numbers.now());
-            }
+            self.turn(numbers);
         }
     }
 
-    /// Waits until the system reports something, or the time of the first connection is over. Serves the connections of which something was
-    /// reported, and returns whether another one has come. `now` is in milliseconds since the server's start.
-    fn wait(&mut self, numbers: &Numbers<'_, R>, now: u64) -> bool {
-        let listener = pollfd {
+    /// Waits until the system reports something, or the time of the first connection is over. Then serves those of which something was
+    /// reported, and accepts another one if it has come.
+    fn turn(&mut self, numbers: &Numbers<'_, R>) {
+        let now = numbers.now();
+        self.peers.retain(|peer| !peer.is_over(now));
+        let mut asked = [self.asked(); MOST + 1];
+        self.ask(&mut asked[1..]);
+        let count = self.peers.len().min(MOST) + 1;
+        if libc::net::poll(&mut asked[..count], self.patience(now)) < 0 {
+            self.pause();
+        }
+        self.step(&asked[1..], numbers);
+        if asked[0].revents != 0 {
+            self.accept(numbers.now());
+        }
+    }
+
+    /// Returns what the system has to report of the port: a connection that can be accepted.
+    fn asked(&self) -> pollfd {
+        pollfd {
             fd: self.listener.as_raw_fd(),
             events: POLLIN,
             revents: 0,
-        };
-        let mut asked = [listener; MOST + 1];
-        let count = self.peers.len().min(MOST);
-        for (place, peer) in asked[1..].iter_mut().zip(self.peers.iter()) {
+        }
+    }
+
+    /// Sets `places` to what the system has to report of each connection.
+    fn ask(&self, places: &mut [pollfd]) {
+        for (place, peer) in places.iter_mut().zip(self.peers.iter()) {
             *place = peer.asked();
         }
-        if libc::net::poll(&mut asked[..count + 1], self.patience(now)) < 0 {
-            self.pause();
-        }
-        for (place, peer) in asked[1..].iter().zip(self.peers.iter_mut()) {
+    }
+
+    /// Serves each connection of which something was reported in its place of `places`.
+    fn step(&mut self, places: &[pollfd], numbers: &Numbers<'_, R>) {
+        for (place, peer) in places.iter().zip(self.peers.iter_mut()) {
             if place.revents != 0 {
                 peer.step(self.alloc, numbers);
             }
         }
-        asked[0].revents != 0
     }
 
     /// Returns how long to wait at `now` for the end of the first connection's time, in milliseconds; -1 if there is none.
