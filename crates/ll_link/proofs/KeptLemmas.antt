@@ -1,11 +1,11 @@
 -- The answer to an item that was settled: whether it was kept changes neither why it is right nor what the pass has heard.
-use Rattle.std.proofs.Common.{◌≡◌, ◌⊎◌, inl, inr, ℕ, List, Option, Some, None, Result, Ok, Err, true, length, nat_le, refl, ap, sym, subst, ◌∙◌}
+use Rattle.std.proofs.Common.{◌≡◌, inl, inr, ℕ, List, Option, Some, None, Result, Ok, Err, true, length, nat_le, refl, ap, sym, subst, ◌∙◌}
 use Rattle.ll_hub.specs.Passes.{PassValue}
 use Rattle.ll_settings.specs.Channels.{channel_of_name}
 use Rattle.ll_item.specs.Media.{media_limit}
 use Rattle.ll_settings.specs.Settings.{Configuration}
 use Rattle.ll_link.proofs.AnswerLemmas.{item_reply}
-use Rattle.ll_link.specs.Answers.{IsAnswerIn, refused_before, refused_in}
+use Rattle.ll_link.specs.Answers.{IsAnswerIn, refused_in}
 use Rattle.ll_link.specs.Heard.{heard_in, unstamped}
 use Rattle.ll_link.specs.Kept.{IsSettled}
 use Rattle.ll_link.specs.Publishing.{IsReplyTo}

@@ -1,5 +1,5 @@
 -- A publisher's connection while it is served: what an answered line adds, and what the bytes of a read add.
-use Rattle.std.proofs.Common.{◌≡◌, ℕ, ◌+◌, List, [], ◌∷◌, ◌++◌, Option, Some, None, Result, append-nil, append_assoc, refl, ap, sym, ◌∙◌, subst, arith, Ok, Err, OnErr}
+use Rattle.std.proofs.Common.{◌≡◌, ℕ, ◌+◌, List, [], ◌∷◌, ◌++◌, Option, Some, None, Result, append-nil, append_assoc, refl, ap, sym, ◌∙◌, subst, Ok, Err, OnErr}
 use Rattle.std.proofs.KnownBytes.{Appends-nil, Appends-trans}
 use Rattle.std.proofs.lemmas.List.{map-append}
 use Rattle.std.proofs.lemmas.List.Concat.{flat_map-append}
@@ -18,7 +18,7 @@ use Rattle.ll_publish.specs.declared.refusal.Refusal.{Refusal}
 use Rattle.ll_publish.specs.declared.success.Success.{Success}
 use Rattle.ll_link.proofs.ReadLemmas.{read-no_more, read-then}
 use Rattle.ll_link.specs.Doors.{Origin}
-use Rattle.ll_link.specs.Publishing.{AreRight, Caller, Exchange, IsCutOff, IsServed, IsTold, after_all, after_exchange, caller_after, lines_of, newcomer, replies_of}
+use Rattle.ll_link.specs.Publishing.{AreRight, Caller, Exchange, IsCutOff, IsServed, IsTold, after_all, after_exchange, caller, caller_after, lines_of, newcomer, replies_of}
 use Rattle.ll_link.specs.Serving.{IsBroken, IsDrained, IsServing}
 
 -- one call more
@@ -161,8 +161,14 @@ pub drained-at : (o : Origin) (taken : List ℕ) (feed : FeedValue) (start calle
     → IsDrained o taken feed start caller base mid → written ≡ mid → IsDrained o taken feed start caller base written
 drained-at o taken feed start caller base mid written d same = subst (IsDrained o taken feed start caller base) (sym same) d
 
-pub drained-none : (o : Origin) (feed : FeedValue) (start : Caller) (base : Option (List ℕ)) → feed ≡ fresh → IsDrained o [] feed start start base base
+drained-none : (o : Origin) (feed : FeedValue) (start : Caller) (base : Option (List ℕ)) → feed ≡ fresh → IsDrained o [] feed start start base base
 drained-none o feed start base e = record { serving = serving-none o feed start base e; none = ap lines_in e }
+
+-- no channel is open yet
+pub drained-first : (o : Origin) (feed : FeedValue) (pass : PassValue) (opened : List ℕ) (base : Option (List ℕ)) → feed ≡ fresh → opened ≡ []
+    → IsDrained o [] feed (newcomer pass) (caller pass opened) base base
+drained-first o feed pass opened base e none =
+    subst (λ places. IsDrained o [] feed (newcomer pass) (caller pass places) base base) (sym none) (drained-none o feed (newcomer pass) base e)
 
 pub on-err : {A E : Type 0} {P : Type 0} (r : Result A E) → P → OnErr r P
 on-err (Ok x) p = tt

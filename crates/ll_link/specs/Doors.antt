@@ -1,5 +1,5 @@
 -- Channels with a secret: what becomes of a publisher's line, by what the lines before it on its connection have opened.
-use Rattle.std.specs.Prelude.{ℕ, ◌==◌, Bool, List, [], Option, Some, None, if◌then◌else◌, option_and_then, slice_get}
+use Rattle.std.specs.Prelude.{ℕ, ◌==◌, Bool, List, Option, Some, None, if◌then◌else◌, option_and_then, slice_get}
 use Rattle.std.specs.List.{list_any}
 use Rattle.ll_door.specs.Doors.{opens, secret_in}
 use Rattle.ll_publish.specs.Line as says

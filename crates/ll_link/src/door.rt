@@ -25,18 +25,20 @@ pub(crate) enum Passage {
 /// Returns what becomes of a line that gives the word `word`, or none, for the channel at `channel`, whose secret has the digest `digest`.
 /// `opened` are the places of the channels that are open.
 fn passage_with(digest: &Digest, word: Option<&str>, opened: &[usize], channel: usize) -> Passage
-    ensures { passage_of result ≡ passage_by (Some digest.now) (option_map (λ w. w.now) word) (spec.is_open opened.now channel) channel }
+    ensures { passage_of result ≡ passage_by (Some digest.now) (option_map (λ w. w.now) word.entry) (spec.is_open opened.now channel) channel }
 {
-    let passes = match word {
-        Some(word) if digest.is_of(word) => return Passage::Opens(channel),
-        Some(_) => false,
-        None => opened.iter().any(|each| *each == channel),
-    };
-    if passes {
-        Passage::Passes
-    } else {
-        Passage::Stays(channel)
+    match word {
+        Some(word) if digest.is_of(word) => Passage::Opens(channel),
+        None if is_open(opened, channel) => Passage::Passes,
+        _ => Passage::Stays(channel),
     }
+}
+
+/// Returns whether the channel at `channel` is among those at the places `opened`.
+fn is_open(opened: &[usize], channel: usize) -> bool
+    ensures { result ≡ spec.is_open opened.now channel }
+{
+    opened.iter().any(|each| *each == channel)
 }
 
 impl<L: Ledgers, C, G, K, D, B, R> Service<'_, L, C, G, K, D, B, R> {
@@ -53,7 +55,7 @@ impl<L: Ledgers, C, G, K, D, B, R> Service<'_, L, C, G, K, D, B, R> {
 
     /// Returns what becomes of a line for the channel named `name` that gives the word `word`, or none.
     fn at_door(&self, opened: &[usize], name: &str, word: Option<&str>) -> Passage
-        ensures { passage_of result ≡ passage_at self.now.secrets.now opened.now (option_map (λ w. w.now) word) (channel_of_name self.now.hub.now 0 name.now) }
+        ensures { passage_of result ≡ passage_at self.now.secrets.now opened.now (option_map (λ w. w.now) word.entry) (channel_of_name self.now.hub.now 0 name.now) }
     {
         match self.hub.find(name) {
             Some((channel, _)) => match self.secrets.get(channel) {

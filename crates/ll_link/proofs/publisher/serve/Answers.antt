@@ -2,11 +2,11 @@
 use Rattle.std.proofs.Common.{[], arith, refl, length, ◌<◌, ◌++◌, ◌∙◌, take}
 use Rattle.ll_device.proofs.InwardLemmas.{looked_at-none}
 use Rattle.ll_link.proofs.ReadLemmas.{IsReadWithin-then, read-then}
-use Rattle.ll_link.proofs.ServingLemmas.{cut-answering, cut-reading, drained-at, drained-none, on-err, served, serving-fed}
+use Rattle.ll_link.proofs.ServingLemmas.{cut-answering, cut-reading, drained-at, drained-first, on-err, served, serving-fed}
 use Rattle.ll_link.proofs.publisher.serve.Goals as goal
 
 pub loop-init : goal.loop-init
-loop-init g c = record { steady = refl; taken = []; read = looked_at-none _; drained = drained-none _ _ _ _ c.new-feed.ensures }
+loop-init g c = record { steady = refl; taken = []; read = looked_at-none _; drained = drained-first _ _ _ _ _ c.new-feed.ensures c.new-opened.ensures.items }
 
 pub loop-preserved : goal.loop-preserved
 loop-preserved g c =
