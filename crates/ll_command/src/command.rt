@@ -116,7 +116,7 @@ impl<'a> Command<'a> {
         rendition: &'a Text,
         plan: Option<(Plan, Option<&'a str>)>,
     ) -> Result<Command<'a>, Fault>
-        ensures { MatchResult result (λ c. spec.with_plan name.now address.now channel.now rendition.now (option_map (λ p. (p.0, option_map (λ s. s.now) p.1)) plan) ≡ Ok (call_of c)) (λ f. spec.with_plan name.now address.now channel.now rendition.now (option_map (λ p. (p.0, option_map (λ s. s.now) p.1)) plan) ≡ Err f) }
+        ensures { MatchResult result (λ c. spec.with_plan name.now address.now channel.now rendition.now (option_map (λ p. (p.0, option_map (λ s. s.now) p.1)) plan.entry) ≡ Ok (call_of c)) (λ f. spec.with_plan name.now address.now channel.now rendition.now (option_map (λ p. (p.0, option_map (λ s. s.now) p.1)) plan.entry) ≡ Err f) }
     {
         if name.as_str() == "push" {
             Command::push(address, channel, rendition, plan)
@@ -132,7 +132,7 @@ impl<'a> Command<'a> {
         rendition: &'a Text,
         plan: Option<(Plan, Option<&'a str>)>,
     ) -> Result<Command<'a>, Fault>
-        ensures { MatchResult result (λ c. spec.push address.now channel.now rendition.now (option_map (λ p. (p.0, option_map (λ s. s.now) p.1)) plan) ≡ Ok (call_of c)) (λ f. spec.push address.now channel.now rendition.now (option_map (λ p. (p.0, option_map (λ s. s.now) p.1)) plan) ≡ Err f) }
+        ensures { MatchResult result (λ c. spec.push address.now channel.now rendition.now (option_map (λ p. (p.0, option_map (λ s. s.now) p.1)) plan.entry) ≡ Ok (call_of c)) (λ f. spec.push address.now channel.now rendition.now (option_map (λ p. (p.0, option_map (λ s. s.now) p.1)) plan.entry) ≡ Err f) }
     {
         if !is_name(channel.as_str()) || !is_name(rendition.as_str()) {
             return Err(Fault::Usage);

@@ -1,5 +1,6 @@
 //! The line by which a publisher shows that it knows a channel's secret.
 ghost use Rattle.std.specs.Prelude.{◌≡◌, IfOk, IfErr, MatchOption, None, Some};
+ghost use Rattle.std.specs.List.{list_all};
 ghost use Rattle.std.specs.Str.Lines.{strip_carriage_return};
 ghost use Rattle.ll_command.specs.Secrets.{IsSecretFault};
 ghost use Rattle.ll_command.specs.Secrets as spec;
@@ -42,11 +43,21 @@ fn secret_in(file: &[u8]) -> Option<&[u8]>
     ensures { MatchOption result (spec.secret_in file.now ≡ None) (λ word. spec.secret_in file.now ≡ Some word.now) }
 {
     let word = without_end(file);
-    if !word.is_empty() && word.len() <= LONGEST && word.iter().all(|byte| is_plain(*byte)) {
-        Some(word)
-    } else {
-        None
-    }
+    if is_secret(word) { Some(word) } else { None }
+}
+
+/// Returns whether `word` has 1 to 256 bytes that are allowed in a secret.
+fn is_secret(word: &[u8]) -> bool
+    ensures { result ≡ spec.is_secret word.now }
+{
+    !word.is_empty() && word.len() <= LONGEST && are_plain(word)
+}
+
+/// Returns whether all of `bytes` are allowed in a secret.
+fn are_plain(bytes: &[u8]) -> bool
+    ensures { result ≡ list_all spec.is_plain bytes.now }
+{
+    bytes.iter().all(|byte| is_plain(*byte))
 }
 
 /// Returns `bytes` without the LF, or CR and LF, at their end.

@@ -1,8 +1,8 @@
-//! `llhls`, an origin for Low-Latency HLS. `llhls serve SETTINGS` serves publishers and players over TCP; `llhls push ADDRESS[,ADDRESS ..]
-//! CHANNEL RENDITION part=US segment=US [most=US] [ahead=no] [retry=S] [keep=BYTES] [secret=FILE] [end]` publishes what an encoder writes;
-//! `llhls replay` runs a script; `llhls check FILE` checks the record of a channel, `llhls upgrade FILE` writes it in format 2, and `llhls explain FILE [ENTRY]`
-//! summarizes it or explains an entry; `llhls multivariant RECORD NAME=INIT ..` writes its Multivariant Playlist; `llhls apply BASE DELTA`
-//! applies a delta update to a playlist; `llhls version` says which version it is.
+//! `llhls`, an origin for Low-Latency HLS. `llhls serve SETTINGS` serves publishers and players;
+//! `llhls push ADDRESS[,ADDRESS ..] CHANNEL RENDITION part=US segment=US [most=US] [ahead=no] [retry=S] [keep=BYTES] [secret=FILE] [end]`
+//! publishes what an encoder writes; `llhls replay` runs a script; `llhls check FILE` checks the record of a channel, `llhls upgrade FILE`
+//! writes it in format 2, and `llhls explain FILE [ENTRY]` summarizes it or explains an entry; `llhls multivariant RECORD NAME=INIT ..` writes
+//! its Multivariant Playlist; `llhls apply BASE DELTA` applies a delta update to a playlist; `llhls version` says which version it is.
 #![tactic(auto)]
 
 ghost use Rattle.std.specs.Prelude.{◌≡◌, IfErr};
