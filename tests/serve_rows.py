@@ -4,6 +4,7 @@ from serve_room import CAM, NEXT, PRESENT
 LISTEN = 'listen 127.0.0.1:0\n'
 BOTH = LISTEN + 'publish 127.0.0.1:0\n'
 THREE = BOTH + 'workers 4\n'
+SECRET = 'secret ' + '0123456789abcdEF' * 4
 
 # Settings with a fault, each after the line that has it.
 BAD_SETTINGS = (
@@ -18,13 +19,19 @@ BAD_SETTINGS = (
     (1, 'listen 127.0.0:1\n'),
     (1, 'listen 256.0.0.1:1\n'),
     (1, 'listen localhost:1\n'),
-    (1, 'listen [::1]:1\n'),
+    (1, 'listen ::1:1\n'),
+    (1, 'listen [::1]\n'),
+    (1, 'listen [::1]1\n'),
+    (1, 'listen [127.0.0.1]:1\n'),
+    (1, 'listen unix:a\n'),
     (1, 'listen  127.0.0.1:1\n'),
     (1, 'listen 127.0.0.1:1 \n'),
     (1, 'Listen 127.0.0.1:1\n'),
     (2, LISTEN),
     (2, f'{LISTEN}workers 4\n{CAM}\n'),
     (2, f'{LISTEN}publish 127.0.0.1:-1\n'),
+    (2, f'{LISTEN}publish unix:\nworkers 4\n{CAM}\n'),
+    (2, f'{LISTEN}publish localhost:1\n'),
     (3, BOTH),
     (3, f'{BOTH}workers\n'),
     (3, f'{BOTH}workers 0\n{CAM}\n'),
@@ -51,6 +58,23 @@ BAD_SETTINGS = (
     (6, f'{THREE}record a\nlog b\n'),
     (4, f'{THREE}channel cam target=4 part=1000000 skip=23 window=36 renditions=hi first=0 start=0\n'),
     (4, f'{THREE}channel CAM target=4 part=1000000 skip=24 window=36 renditions=hi first=0 start=0\n'),
+    (4, f'{THREE}status\n{CAM}\n'),
+    (4, f'{THREE}status 8083\n{CAM}\n'),
+    (4, f'{THREE}status unix:a\n{CAM}\n'),
+    (5, f'{THREE}status 127.0.0.1:0\nstatus 127.0.0.1:0\n{CAM}\n'),
+    (5, f'{THREE}status 127.0.0.1:0\nlog a\n{CAM}\n'),
+    (4, f'{THREE}idle\n{CAM}\n'),
+    (4, f'{THREE}idle 0\n{CAM}\n'),
+    (4, f'{THREE}idle 86401\n{CAM}\n'),
+    (5, f'{THREE}idle 30\nstatus 127.0.0.1:0\n{CAM}\n'),
+    (5, f'{THREE}idle 30\n'),
+    (4, f'{THREE}{SECRET}\n{CAM}\n'),
+    (5, f'{THREE}{CAM}\n{SECRET}0\n'),
+    (5, f'{THREE}{CAM}\n{SECRET[:-1]}\n'),
+    (5, f'{THREE}{CAM}\n{SECRET[:-1]}g\n'),
+    (5, f'{THREE}{CAM}\nsecret\n'),
+    (5, f'{THREE}{CAM}\nsecret \n'),
+    (6, f'{THREE}{CAM}\n{SECRET}\n{SECRET}\n'),
     (4, f'{THREE}\xff\n'),
     (5, f'{THREE}{CAM}\n{CAM}\n'),
     (5, f'{THREE}{CAM}\nworkers 4\n'),
