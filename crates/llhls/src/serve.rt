@@ -17,6 +17,7 @@ use ll_hub::{Bell, Blanks, Clock, Hub, HubFault, Ledgers, Pass, Sink};
 use ll_serve::{Bells, Gate, Role, Service, serve_links, serve_players};
 use ll_settings::Settings;
 use ll_spool::Disk;
+use ll_status::StatusPort;
 use std::alloc::{AllocError, Global};
 use std::fs::File;
 use std::marker::Brand;
@@ -216,7 +217,7 @@ fn host<
     let Ok(hub) = Hub::<L>::new(server.alloc, channels, blanks) else {
         return Err(Stop::Fault(Fault::Memory));
     };
-    match (&*server).host_on(&hub, &bells, doors, files) {
+    match serve_at(&*server, &hub, &bells, &doors, files) {
         Ok((passes, all)) => match hub.finish(passes) {
             Ok(_) if all => Ok(()),
             _ => Err(Stop::Fault(Fault::Memory)),
@@ -226,6 +227,29 @@ fn host<
             Err(stop)
         }
     }
+}
+
+/// Publishes the items of the spools whose files are `files`, opens `doors`, and serves who connects there. Returns the passes, and whether
+/// they are all there.
+fn serve_at<
+    'a,
+    L: Ledgers + Send + Sync,
+    R: Net<Listener = TcpListener, Stream = TcpStream>
+        + Files
+        + Eprint
+        + time::Clock
+        + Threads
+        + Wait
+        + Sync,
+>(
+    server: &'a Server<'_, R>,
+    hub: &'a Hub<L>,
+    bells: &'a Bells,
+    doors: &'a Doors,
+    files: Vec<SpoolFiles<'a, R>>,
+) -> Result<(Vec<Pass<L>>, bool), Stop> {
+    let opened = open(&*server, &*hub, &*doors, files)?;
+    Ok((&*server).host_on(&*hub, &*bells, &*doors, opened))
 }
 
 /// Returns how many pollers serve players: one for each processor, and no more than there are `workers`.
@@ -244,27 +268,25 @@ type Served<L> = (Vec<Pass<L>>, Option<HubFault>);
 
 impl<
     R: Net<Listener = TcpListener, Stream = TcpStream>
-        + Files
         + Eprint
         + time::Clock
         + Threads
         + Wait
         + Sync,
 > Server<'_, R> {
-    /// Publishes the items of the spools whose files are `files`, opens `doors`, and serves who connects there. Returns the passes, and
-    /// whether they are all there.
+    /// Serves who connects at `doors`, of which `opened` are the listeners. Returns the passes, and whether they are all there.
     fn host_on<'a, L: Ledgers + Send + Sync>(
         &'a self,
         hub: &'a Hub<L>,
         bells: &'a Bells,
-        doors: Doors,
-        files: Vec<SpoolFiles<'a, R>>,
-    ) -> Result<(Vec<Pass<L>>, bool), Stop> {
+        doors: &'a Doors,
+        opened: Opened<'a, L, R>,
+    ) -> (Vec<Pass<L>>, bool) {
         let Opened {
             spools,
             pass,
             listeners,
-        } = open(self, hub, &doors, files)?;
+        } = opened;
         let service = Service {
             rt: self.rt,
             alloc: self.alloc,
@@ -281,13 +303,7 @@ impl<
             mut publishers,
             mut status,
         } = listeners;
-        let ((), (served, fed)) = thread::join(
-            self.rt,
-            || serve_status(&mut status, &self.numbers),
-            ||
-                requires { IsSend L.row }
-            { self.work(&service, &mut players, &mut publishers, bells) },
-        );
+        let (served, fed) = self.work(&service, &mut players, &mut publishers, &mut status, bells);
         let (mut passes, served) = served;
         let (more, fed) = fed;
         let mut all = served.is_none() && fed.is_none();
@@ -295,12 +311,57 @@ impl<
             all &= passes.push(pass).is_ok();
         }
         all &= passes.push(pass).is_ok();
-        Ok((passes, all))
+        (passes, all)
     }
 
-    /// Serves those who connect at the two listeners, and keeps the time. Returns the passes of those who serve players, and of those who
-    /// serve publishers, each with the fault if they aren't all there.
+    /// Serves those who connect at the listeners and at the status port, and keeps the time. Returns the passes of those who serve players,
+    /// and of those who serve publishers, each with the fault if they aren't all there.
     fn work<
+        L: Ledgers + Send + Sync,
+        C: Clock + Sync,
+        G: Gate + Sync,
+        K: Sink + Sync,
+        D: Disk + Send,
+        B: Bell + Sync,
+    >(
+        &self,
+        service: &Service<'_, L, C, G, K, D, B, R>,
+        players: &mut Listener<'_, R>,
+        publishers: &mut Listener<'_, R>,
+        status: &mut Option<StatusPort<'_, R>>,
+        bells: &Bells,
+    ) -> (Served<L>, Served<L>) {
+        let ((), served) = thread::join(
+            self.rt,
+            ||
+                requires { IsSend L.row × IsSend D.row }
+            { self.watch_over(service, status) },
+            ||
+                requires { IsSend L.row }
+            { self.admit(service, players, publishers, bells) },
+        );
+        served
+    }
+
+    /// Keeps the time, and serves the status port, if there is one.
+    fn watch_over<
+        L: Ledgers + Send + Sync,
+        C: Clock + Sync,
+        G: Gate + Sync,
+        K: Sink + Sync,
+        D: Disk + Send,
+        B: Bell + Sync,
+    >(&self, service: &Service<'_, L, C, G, K, D, B, R>, status: &mut Option<StatusPort<'_, R>>) {
+        let _ended = thread::join(
+            self.rt,
+            || self.keep_time(service),
+            || serve_status(status, &self.numbers),
+        );
+    }
+
+    /// Serves those who connect at the two listeners. Returns the passes of those who serve players, and of those who serve publishers,
+    /// each with the fault if they aren't all there.
+    fn admit<
         L: Ledgers + Send + Sync,
         C: Clock + Sync,
         G: Gate + Sync,
@@ -314,24 +375,15 @@ impl<
         publishers: &mut Listener<'_, R>,
         bells: &Bells,
     ) -> (Served<L>, Served<L>) {
-        let (_ticked, served) = thread::join(
+        thread::join(
             self.rt,
-            || self.keep_time(service),
             ||
                 requires { IsSend L.row }
-            {
-                thread::join(
-                    self.rt,
-                    ||
-                        requires { IsSend L.row }
-                    { self.admit_players(service, players, bells) },
-                    ||
-                        requires { IsSend L.row }
-                    { self.admit_publishers(service, publishers) },
-                )
-            },
-        );
-        served
+            { self.admit_players(service, players, bells) },
+            ||
+                requires { IsSend L.row }
+            { self.admit_publishers(service, publishers) },
+        )
     }
 
     /// Serves the players who connect at `listener`. Returns the pollers' passes, and the fault if they aren't all there.
