@@ -1,2 +1,3 @@
-pub mod TotalLemmas
 pub mod RungLemmas
+pub mod TickLemmas
+pub mod TotalLemmas

@@ -1,19 +1,27 @@
--- The results of a hub's calls. A hub is the settings of its channels, a pass what its caller has seen of each.
-use Rattle.std.specs.Prelude.{◌≡◌, ◌≢◌, ◌<◌, ◌≤◌, ℕ, ⊤, List, Option, Some, None, length, slice_get}
+-- The results of a hub's calls. A hub is the settings of its channels, a pass what its caller has seen and counted. Each call leads the caller's
+-- beginning of the hub's one history to a longer one.
+use Rattle.std.specs.Prelude.{◌≡◌, ◌⊎◌, ◌<◌, ◌≤◌, ◌+◌, ℕ, ⊤, List, Option, Some, None, MatchBool, length, slice_get}
+use mathlib.Core.List.{IsPrefix}
 use Rattle.ll_directive.specs.Targets.{WantValue}
+use Rattle.ll_history.specs.History.{deeds_at}
+use Rattle.ll_history.specs.declared.deed.Logged.{Logged}
 use Rattle.ll_settings.specs.Settings.{Configuration}
 use Rattle.ll_item.specs.declared.item.Item.{Item}
+use Rattle.ll_ledger.specs.Sections.{HasAccepted, HasAnswered, HasClosed, HasDecided, HasHandedOut, HasHeld, HasNone, HasNotTicked, HasRefused, HasStanding, HasTicked, HasUnasked, HasUnread, IsAskedBy}
 use Rattle.ll_room.specs.StampedValue.{StampedValue}
 use Rattle.ll_room.specs.declared.stamped.Stamp.TheVariants as stamp
 use Rattle.ll_rendition.specs.declared.fault.PublishFault.{PublishFault}
-use Rattle.ll_rendition.specs.declared.fault.PublishFault.TheVariants as refused
+use Rattle.ll_verdict.specs.declared.fault.AskFault.{AskFault}
+use Rattle.ll_verdict.specs.declared.fault.ClockFault.{ClockFault}
 use Rattle.ll_verdict.specs.declared.reply.Reply.{Reply}
 use Rattle.ll_verdict.specs.declared.standing.Standing.{Standing}
 use Rattle.ll_hub.specs.Claim.{ClaimValue}
-use Rattle.ll_hub.specs.Passes.{noted, noted_reply}
-use Rattle.ll_hub_channel.specs.Told.{IsAccepted, IsAnswered, IsAskRefused, IsDecided, IsHandedOut, IsHeld, IsReadingRefused, IsRefused, IsStanding, IsTotal}
+use Rattle.ll_hub.specs.Passes.{PassValue, noted, noted_reply}
+use Rattle.ll_hub_channel.specs.Deeds.{events_of}
+use Rattle.ll_hub_channel.specs.Told.{IsTotalOf}
 use Rattle.ll_record.specs.Chunk.{ChunkValue}
 use Rattle.ll_record.specs.Taken.{TakenChunk, Takes}
+use Rattle.ll_hub_channel.specs.declared.channel.AtOnce.{AtOnce}
 use Rattle.ll_hub_channel.specs.declared.fault.HubFault.{HubFault}
 use Rattle.ll_hub_channel.specs.declared.fault.HubFault.TheVariants.{UnknownChannel, WentBack, Room, Stranger, Short, Memory}
 use Rattle.ll_hub_channel.specs.declared.fault.RoomFault.TheVariants as room
@@ -27,6 +35,11 @@ use Rattle.ll_hub.specs.declared.hub.Waited.TheVariants as waited
 pub record IsKnown (hub : List Configuration) (passed : List ℕ) (place : ℕ) (settings : Configuration) (seen : ℕ) : Type 0 where
   pub channel : slice_get hub place ≡ Some settings
   pub pass : slice_get passed place ≡ Some seen
+
+-- the caller has seen more of the history, and nothing else has changed
+pub record HasSeen (before after : PassValue) : Type 0 where
+  pub same : after ≡ record before { history = after.history }
+  pub grows : IsPrefix before.history after.history
 
 -- why the lock of the channel at `place` isn't reached, if the caller has seen `seen` of it
 abbrev pub IsUnreached : List Configuration → ℕ → Option ℕ → HubFault → Type 0
@@ -44,21 +57,21 @@ IsSeatFault other = ⊥
 -- ---- publish
 
 -- an item was accepted by the channel at `place`
-pub record IsPublished (hub : List Configuration) (place : ℕ) (item : Item) (before after : List ℕ) (mark : StampedValue ℕ) : Type 0 where
+pub record IsPublished (hub : List Configuration) (place : ℕ) (item : Item) (before after : PassValue) (mark : StampedValue ℕ) : Type 0 where
   pub settings : Configuration
   pub seen : ℕ
-  pub known : IsKnown hub before place settings seen
+  pub known : IsKnown hub before.seen place settings seen
   pub room : mark.room ≡ place
   pub stamp : mark.stamp ≡ stamp.Publish item
-  pub accepted : IsAccepted settings item seen mark.value
-  pub passed : after ≡ noted before place mark.value
+  pub accepted : HasAccepted before.history after.history place settings seen item mark.value
+  pub passed : after ≡ record before { seen = noted before.seen place mark.value; publishes = before.publishes + 1; history = after.history }
 
--- an item was refused by the room of the channel at `place`; Memory says nothing of the item
-pub record IsItemRefused (hub : List Configuration) (place : ℕ) (item : Item) (before : List ℕ) (fault : PublishFault) : Type 0 where
+-- an item was refused by the room of the channel at `place`
+pub record IsItemRefused (hub : List Configuration) (place : ℕ) (item : Item) (before after : PassValue) (fault : PublishFault) : Type 0 where
   pub settings : Configuration
   pub seen : ℕ
-  pub known : IsKnown hub before place settings seen
-  pub refused : fault ≢ refused.Memory → IsRefused settings item seen fault
+  pub known : IsKnown hub before.seen place settings seen
+  pub refused : HasRefused before.history after.history place settings seen item fault
 
 -- the limit of what is counted was reached, before the room of the channel at `place` was asked
 pub record IsCountedOut (hub : List Configuration) (place : ℕ) (before : List ℕ) : Type 0 where
@@ -75,28 +88,28 @@ IsUnmet hub before place Stranger = (settings : Configuration) × (slice_get hub
 IsUnmet hub before place Short = IsCountedOut hub place before
 IsUnmet hub before place Memory = ⊥
 
-abbrev pub IsPublishFault : List Configuration → ℕ → Item → List ℕ → HubFault → Type 0
-IsPublishFault hub place item before (Room other (room.Publish fault)) = (other ≡ place) × IsItemRefused hub place item before fault
-IsPublishFault hub place item before fault = IsUnmet hub before place fault
+abbrev pub IsPublishFault : List Configuration → ℕ → Item → PassValue → PassValue → HubFault → Type 0
+IsPublishFault hub place item before after (Room other (room.Publish fault)) = (other ≡ place) × IsItemRefused hub place item before after fault
+IsPublishFault hub place item before after fault = IsUnmet hub before.seen place fault
 
 -- ---- standing
 
 -- the channel at `place` has no rendition at index `rendition`
-pub record HasNone (hub : List Configuration) (place rendition : ℕ) : Type 0 where
+pub record HasNoRendition (hub : List Configuration) (place rendition : ℕ) : Type 0 where
   pub settings : Configuration
   pub channel : slice_get hub place ≡ Some settings
   pub none : length settings.renditions ≤ rendition
 
 -- where a rendition of the channel at `place` stands
-pub record IsPlace (hub : List Configuration) (place rendition : ℕ) (before after : List ℕ) (s : Standing) : Type 0 where
+pub record IsPlace (hub : List Configuration) (place rendition : ℕ) (before after : PassValue) (s : Standing) : Type 0 where
   pub settings : Configuration
   pub seen : ℕ
-  pub known : IsKnown hub before place settings seen
-  pub stands : IsStanding settings rendition seen s
-  pub passed : after ≡ noted before place s.count
+  pub known : IsKnown hub before.seen place settings seen
+  pub stands : HasStanding before.history after.history place settings seen rendition s
+  pub passed : after ≡ record before { seen = noted before.seen place s.count; history = after.history }
 
-abbrev pub IsPlaced : List Configuration → ℕ → ℕ → List ℕ → List ℕ → Option Standing → Type 0
-IsPlaced hub place rendition before after None = HasNone hub place rendition × (after ≡ before)
+abbrev pub IsPlaced : List Configuration → ℕ → ℕ → PassValue → PassValue → Option Standing → Type 0
+IsPlaced hub place rendition before after None = HasNoRendition hub place rendition × HasSeen before after
 IsPlaced hub place rendition before after (Some s) = IsPlace hub place rendition before after s
 
 abbrev pub IsUnplaced : List Configuration → List ℕ → ℕ → HubFault → Type 0
@@ -105,100 +118,148 @@ IsUnplaced hub before place fault = IsUnmet hub before place fault
 
 -- ---- ask
 
--- a request is answered at once
-pub record IsAnsweredNow (hub : List Configuration) (place : ℕ) (want : WantValue) (before after : List ℕ) (mark : StampedValue Reply) : Type 0 where
+-- the result of a request, before its items are noted
+pub record IsAskedThere (shows : ℕ → Type 0) (hub : List Configuration) (place : ℕ) (want : WantValue) (before after : PassValue) (answer : AtOnce) : Type 0 where
   pub settings : Configuration
   pub seen : ℕ
-  pub number : ℕ
-  pub known : IsKnown hub before place settings seen
-  pub room : mark.room ≡ place
-  pub stamp : mark.stamp ≡ stamp.Ask number want
-  pub answered : IsAnswered settings want seen number mark.value
-  pub passed : after ≡ noted_reply before place mark.value
+  pub known : IsKnown hub before.seen place settings seen
+  pub asked : IsAskedBy shows before.history after.history place settings seen want answer
+  pub passed : after ≡ record before { asks = before.asks + 1; history = after.history }
+
+-- a request is answered at once
+pub record IsAnsweredNow (shows : ℕ → Type 0) (hub : List Configuration) (place : ℕ) (want : WantValue) (before after : PassValue) (mark : StampedValue Reply) : Type 0 where
+  pub settings : Configuration
+  pub seen : ℕ
+  pub known : IsKnown hub before.seen place settings seen
+  pub answered : HasAnswered shows before.history after.history place settings seen want mark
+  pub passed : after ≡ record before { seen = noted_reply before.seen place mark.value; asks = before.asks + 1; history = after.history }
 
 -- a request is held
-pub record IsClaimed (hub : List Configuration) (place : ℕ) (want : WantValue) (before after : List ℕ) (claim : ClaimValue) : Type 0 where
+pub record IsClaimed (shows : ℕ → Type 0) (hub : List Configuration) (place : ℕ) (want : WantValue) (before after : PassValue) (claim : ClaimValue) : Type 0 where
   pub settings : Configuration
   pub seen : ℕ
-  pub known : IsKnown hub before place settings seen
+  pub known : IsKnown hub before.seen place settings seen
   pub channel : claim.channel ≡ place
-  pub held : IsHeld settings want seen claim.entry
-  pub passed : after ≡ before
+  pub held : HasHeld shows before.history after.history place settings seen want claim.entry
+  pub passed : after ≡ record before { asks = before.asks + 1; history = after.history }
 
-abbrev pub IsAskedOf : List Configuration → ℕ → WantValue → List ℕ → List ℕ → HubAsked → Type 0
-IsAskedOf hub place want before after (Now mark) = IsAnsweredNow hub place want before after mark
-IsAskedOf hub place want before after (Held claim) = IsClaimed hub place want before after claim
+abbrev pub IsAskedOf : (ℕ → Type 0) → List Configuration → ℕ → WantValue → PassValue → PassValue → HubAsked → Type 0
+IsAskedOf shows hub place want before after (Now mark) = IsAnsweredNow shows hub place want before after mark
+IsAskedOf shows hub place want before after (Held claim) = IsClaimed shows hub place want before after claim
 
--- the room of the channel at `place` refused a request, or the reading before it, which is one that the clock shows
-pub record IsAskedInVain (shows : ℕ → Type 0) (hub : List Configuration) (place : ℕ) (fault : HubFault) : Type 0 where
+-- the room of the channel at `place` refused a request after a reading that the clock shows
+pub record IsAskedInVain (shows : ℕ → Type 0) (hub : List Configuration) (place : ℕ) (before after : PassValue) (fault : AskFault) : Type 0 where
   pub settings : Configuration
   pub channel : slice_get hub place ≡ Some settings
-  pub refused : IsAskRefused shows place settings fault
+  pub refused : HasUnasked shows before.history after.history place settings fault
 
-abbrev pub IsAskFault : (ℕ → Type 0) → List Configuration → ℕ → List ℕ → HubFault → Type 0
-IsAskFault shows hub place before (Room other fault) = IsAskedInVain shows hub place (Room other fault)
-IsAskFault shows hub place before Memory = ⊤
-IsAskFault shows hub place before fault = IsUnmet hub before place fault
+-- it refused the reading before a request
+pub record IsReadInVain (shows : ℕ → Type 0) (hub : List Configuration) (place : ℕ) (before after : PassValue) (fault : ClockFault) : Type 0 where
+  pub settings : Configuration
+  pub channel : slice_get hub place ≡ Some settings
+  pub refused : HasUnread shows before.history after.history place settings fault
+
+abbrev pub IsAskFault : (ℕ → Type 0) → List Configuration → ℕ → PassValue → PassValue → HubFault → Type 0
+IsAskFault shows hub place before after (Room other (room.Publish fault)) = ⊥
+IsAskFault shows hub place before after (Room other (room.Ask fault)) = (other ≡ place) × IsAskedInVain shows hub place before after fault
+IsAskFault shows hub place before after (Room other (room.Clock fault)) = (other ≡ place) × IsReadInVain shows hub place before after fault
+IsAskFault shows hub place before after Memory = ⊤
+IsAskFault shows hub place before after fault = IsUnmet hub before.seen place fault
 
 -- ---- wait
 
 -- a held request got its reply
-pub record IsReplied (hub : List Configuration) (claim : ClaimValue) (before after : List ℕ) (mark : StampedValue Reply) : Type 0 where
+pub record IsReplied (hub : List Configuration) (claim : ClaimValue) (before after : PassValue) (mark : StampedValue Reply) : Type 0 where
   pub settings : Configuration
   pub channel : slice_get hub claim.channel ≡ Some settings
   pub room : mark.room ≡ claim.channel
   pub stamp : mark.stamp ≡ stamp.Collect claim.entry.ticket
-  pub decided : IsDecided settings claim.entry mark.value
-  pub passed : after ≡ noted_reply before claim.channel mark.value
+  pub decided : HasDecided before.history after.history claim.channel settings claim.entry mark.value
+  pub passed : after ≡ record before { seen = noted_reply before.seen claim.channel mark.value; history = after.history }
 
 -- the result of waiting with a limit: the reply, or the same claim again, with nothing seen
-abbrev pub IsWaited : List Configuration → ClaimValue → List ℕ → List ℕ → Waited → Type 0
+abbrev pub IsWaited : List Configuration → ClaimValue → PassValue → PassValue → Waited → Type 0
 IsWaited hub claim before after (waited.Reply mark) = IsReplied hub claim before after mark
 IsWaited hub claim before after (waited.Still back) = (back ≡ claim) × (after ≡ before)
 
-abbrev pub IsWaitFault : List Configuration → ℕ → HubFault → Type 0
-IsWaitFault hub place UnknownChannel = slice_get hub place ≡ None
-IsWaitFault hub place Stranger = (settings : Configuration) × (slice_get hub place ≡ Some settings)
-IsWaitFault hub place other = ⊥
+-- the request of a claim isn't open in its channel
+pub record IsNoneOf (hub : List Configuration) (claim : ClaimValue) (before after : List Logged) : Type 0 where
+  pub settings : Configuration
+  pub channel : slice_get hub claim.channel ≡ Some settings
+  pub none : HasNone before after claim.channel settings claim.entry
 
--- ---- tick
+-- there is no channel for a claim
+pub record IsOfNoChannel (hub : List Configuration) (claim : ClaimValue) (before after : List Logged) : Type 0 where
+  pub none : slice_get hub claim.channel ≡ None
+  pub unseen : after ≡ before
 
-abbrev pub IsTickFault : List Configuration → ℕ → HubFault → Type 0
-IsTickFault hub ms (Room place (room.Clock fault)) = (place < length hub) × IsReadingRefused ms fault
-IsTickFault hub ms other = ⊥
+abbrev pub IsWaitFault : List Configuration → ClaimValue → List Logged → List Logged → HubFault → Type 0
+IsWaitFault hub claim before after UnknownChannel = IsOfNoChannel hub claim before after
+IsWaitFault hub claim before after Stranger = IsNoneOf hub claim before after
+IsWaitFault hub claim before after other = ⊥
 
--- it names a place that isn't below `first`
-abbrev pub IsFrom : ℕ → HubFault → Type 0
-IsFrom first (Room place fault) = first ≤ place
-IsFrom first other = ⊥
+-- ---- close, tick and rotate, whose callers have a beginning of the history and need no pass
 
--- ---- rotate
+-- a held request is closed
+pub record IsClosed (hub : List Configuration) (claim : ClaimValue) (before after : List Logged) : Type 0 where
+  pub settings : Configuration
+  pub channel : slice_get hub claim.channel ≡ Some settings
+  pub closed : HasClosed before after claim.channel settings claim.entry
 
--- the record of the channel at `place` is handed out
-pub record IsRotated (hub : List Configuration) (place : ℕ) (chunk : ChunkValue) : Type 0 where
+-- the channels from `first` up to `end`, without this one, take a reading
+abbrev pub AreTicked : List Logged → List Logged → ℕ → ℕ → ℕ → Type 0
+AreTicked before after first end ms = (place : ℕ) → first ≤ place → place < end → HasTicked before after place ms
+
+-- the channel at `place` is the first that refuses it
+pub record IsNotTicked (hub : List Configuration) (first place ms : ℕ) (before after : List Logged) (fault : ClockFault) : Type 0 where
+  pub from : first ≤ place
+  pub ticked : AreTicked before after first place ms
   pub settings : Configuration
   pub channel : slice_get hub place ≡ Some settings
-  pub handed_out : IsHandedOut settings chunk
+  pub refused : HasNotTicked before after place settings ms fault
+
+abbrev pub IsTickFault : List Configuration → ℕ → ℕ → List Logged → List Logged → HubFault → Type 0
+IsTickFault hub first ms before after (Room place (room.Clock fault)) = IsNotTicked hub first place ms before after fault
+IsTickFault hub first ms before after other = ⊥
+
+-- the record of the channel at `place` is handed out
+pub record IsRotated (hub : List Configuration) (place : ℕ) (before after : List Logged) (chunk : ChunkValue) : Type 0 where
+  pub settings : Configuration
+  pub channel : slice_get hub place ≡ Some settings
+  pub handed_out : HasHandedOut before after place settings chunk
 
 -- and it was handed to a sink, which has taken it once more than before, and nothing else
-pub record IsHandedTo (hub : List Configuration) (place : ℕ) (before after : Option (List TakenChunk)) : Type 0 where
+pub record IsHandedTo (hub : List Configuration) (place : ℕ) (before after : List Logged) (sink taken : Option (List TakenChunk)) : Type 0 where
   pub chunk : ChunkValue
-  pub rotated : IsRotated hub place chunk
-  pub taken : Takes before after place chunk
+  pub rotated : IsRotated hub place before after chunk
+  pub takes : Takes sink taken place chunk
 
 -- why a record is not handed out
 abbrev pub IsRotateFault : List Configuration → ℕ → HubFault → Type 0
 IsRotateFault hub place UnknownChannel = slice_get hub place ≡ None
-IsRotateFault hub place Stranger = (settings : Configuration) × (slice_get hub place ≡ Some settings)
 IsRotateFault hub place Memory = (settings : Configuration) × (slice_get hub place ≡ Some settings)
 IsRotateFault hub place other = ⊥
 
 -- ---- finish
 
--- each channel's total is that of some events of the channel at its place
-abbrev pub AreTotals : List Configuration → List Total → Type 0
-AreTotals hub totals = (place : ℕ) (settings : Configuration) (total : Total) → slice_get hub place ≡ Some settings → slice_get totals place ≡ Some total
-    → IsTotal place settings total
+-- the total of the channel at `place`, by what was done to it in a beginning of the history, which has all that the passes had seen
+pub record IsTotal (passes history : List Logged) (place : ℕ) (settings : Configuration) (t : Total) : Type 0 where
+  pub past : List Logged
+  pub seen : IsPrefix passes past
+  pub whole : IsPrefix past history
+  pub total : IsTotalOf settings (events_of settings (deeds_at place past)) t
+
+-- each channel's total is that of its place
+abbrev pub AreTotals : List Configuration → List Logged → List Logged → List Total → Type 0
+AreTotals hub passes history totals = (place : ℕ) (settings : Configuration) (total : Total) → slice_get hub place ≡ Some settings → slice_get totals place ≡ Some total
+    → IsTotal passes history place settings total
+
+-- all totals are those of one history, of which each pass had seen a beginning
+pub record IsFinished (hub : List Configuration) (passes : List PassValue) (totals : List Total) : Type 0 where
+  pub seen : List Logged
+  pub history : List Logged
+  pub each : (place : ℕ) (pass : PassValue) → slice_get passes place ≡ Some pass → IsPrefix pass.history seen
+  pub right : AreTotals hub seen history totals
 
 -- if not all passes that were given came back, there are fewer than a hub gives at most
 abbrev pub IsFinishFault : ℕ → HubFault → Type 0

@@ -1,5 +1,6 @@
 -- What a caller has seen and counted.
-use Rattle.std.specs.Prelude.{ℕ, List, Option, Some, None, max, replicate, slice_get, slice_set}
+use Rattle.std.specs.Prelude.{ℕ, List, [], Option, Some, None, max, replicate, slice_get, slice_set}
+use Rattle.ll_history.specs.declared.deed.Logged.{Logged}
 use Rattle.ll_verdict.specs.declared.reply.Reply.{Reply}
 use Rattle.ll_verdict.specs.declared.reply.Reply.TheVariants.{Text, Media, NotFound, TooFar, Busy, Timeout}
 
@@ -10,10 +11,12 @@ pub record PassValue : Type 0 where
   pub publishes : ℕ
   -- how many requests the caller has made
   pub asks : ℕ
+  -- the hub's history as far as the caller has seen it
+  pub history : List Logged
 
 -- a pass for `channels` channels that has seen and counted nothing
 abbrev pub new_pass : ℕ → PassValue
-new_pass channels = record { seen = replicate channels 0; publishes = 0; asks = 0 }
+new_pass channels = record { seen = replicate channels 0; publishes = 0; asks = 0; history = [] }
 
 abbrev pub noted_by : Option ℕ → List ℕ → ℕ → ℕ → List ℕ
 noted_by None seen channel count = seen

@@ -1,26 +1,30 @@
 //! The hub: a lock for each channel, and the totals of what its callers count.
-ghost use Rattle.std.specs.Prelude.{◌≡◌, ◌+◌, ◌≤◌, [], None, Some, IfErr, IfOk, MatchOption, OnErr, OnOk, false, length, map, slice_get, sum, vec_capacity};
+ghost use Rattle.std.specs.Prelude.{◌≡◌, ◌⊎◌, ◌+◌, ◌<◌, ◌≤◌, ℕ, [], None, Some, IfErr, IfOk, MatchBool, MatchOption, OnErr, OnOk, length, map, slice_get, sum, vec_capacity};
+ghost use mathlib.Core.List.{IsPrefix};
 ghost use Rattle.ll_settings.specs.Channels.{channel_of_name};
 ghost use Rattle.ll_hub.specs.Calls as calls;
-ghost use Rattle.ll_hub.specs.Passes.{new_pass};
+ghost use Rattle.ll_hub.specs.Passes.{PassValue, new_pass};
 ghost use Rattle.ll_hub.specs.Rung.{IsRung, IsRungBy, IsRungFrom, IsRungTo};
-ghost use Rattle.ll_hub_channel.specs.Ledgers.{IsRest, all_parts, blank};
+ghost use Rattle.ll_ledger.specs.Ledgers.{IsRest, all_parts, blank};
+ghost use Rattle.ll_ledger.specs.Sections.{HasNotTicked, HasTicked};
+ghost use Rattle.ll_settings.specs.Settings.{Configuration};
 
 use crate::bell::Bell;
 use crate::claim::Claim;
-use crate::locks::ChannelLocks;
+use crate::locks::{ChannelLocks, lock_each};
 use crate::pass::Pass;
 use crate::totals::Totals;
 use ll_directive::Want;
-use ll_hub_channel::{
-    Asks, AtOnce, Blanks, ChannelCounts, Clock, HubFault, Ledgers, Opened, PassCounts, Publishes,
-    RoomFault, Seats, Total,
-};
+use ll_history::Past;
+use ll_hub_channel::{AtOnce, HubFault, RoomFault, Total};
 use ll_item::Item;
+use ll_ledger::{
+    Asks, Blanks, ChannelCounts, Clock, Ledgers, Opened, PassCounts, Publishes, Seats,
+};
 use ll_record::{Chunk, Sink};
 use ll_room::Stamped;
 use ll_settings::Settings;
-use ll_verdict::{Reply, Standing};
+use ll_verdict::{ClockFault, Reply, Standing};
 use std::alloc::{AllocError, Global};
 use std::marker::Model;
 use std::sync::{Mutex, Wait};
@@ -45,24 +49,29 @@ pub enum Waited {
 /// Channels, each under its own lock: a call on one channel waits for a call on another no longer than it takes to count. It must be spent
 /// by [`Hub::finish`].
 ///
+/// All that is done to the channels stands in one history, which all threads share; a pass has seen a beginning of it. Each call adds its own deed
+/// after all that its pass had seen, and its result is right by what stands before that; or it does nothing, and its result is right by all that was
+/// done, which the pass has then seen.
+///
 /// Each accepted item and each request is counted twice: by its channel, and by the pass with which it was made. So in the end the totals
 /// of the channels are those of the passes.
 pub struct Hub<L: Ledgers> {
-    locks: ChannelLocks<L>,
+    pub(crate) locks: ChannelLocks<L>,
+    past: Past<L>,
     seats: Mutex<Seats<L>>,
     publishes: Mutex<Publishes<L>>,
     asks: Mutex<Asks<L>>,
 }
 
 impl<L: Ledgers> Model for Hub<L> {
-    ghost use Rattle.std.specs.Prelude.{◌≡◌, List, length};
+    ghost use Rattle.std.specs.Prelude.{◌≡◌, List, [], length};
     ghost use Rattle.ll_settings.specs.Settings.{Configuration};
 
     ghost Value = { List Configuration };
 
     ghost view = { λ h. h.locks };
 
-    ghost invariant = { λ h. length h.locks ≡ L.channels };
+    ghost invariant = { λ h. (length h.locks ≡ L.channels) × (h.past ≡ []) };
 }
 
 /// Only a hub without channels may be dropped: a leak is a failed proof.
@@ -74,6 +83,7 @@ impl<L: Ledgers> Drop for Hub<L> {
     {
         let Hub {
             locks: _locks,
+            past: _past,
             seats: _seats,
             publishes: _publishes,
             asks: _asks,
@@ -91,13 +101,16 @@ impl<L: Ledgers> Hub<L> {
         ensures { IfOk result (λ h. h ≡ channels.items) }
     {
         let Opened {
+            past,
+            mut places,
             channels: mut rest,
             passes,
             publishes,
             asks,
         } = blanks.open::<L>();
         Ok(Hub {
-            locks: lock_each(alloc, channels, &mut rest)?,
+            locks: lock_each(alloc, channels, &mut places, &mut rest)?,
+            past,
             seats: Mutex::new(Seats::new(rest, passes)),
             publishes: Mutex::new(publishes),
             asks: Mutex::new(asks),
@@ -125,9 +138,16 @@ impl<L: Ledgers> Hub<L> {
             return Err(HubFault::Memory);
         };
         match self.seats.lock(rt).take() {
-            Some(counts) => Ok(Pass::new(seen, counts)),
+            Some(counts) => Ok(Pass::new(seen, counts, self.past.again())),
             None => Err(HubFault::Short),
         }
+    }
+
+    /// Returns a beginning of the hub's history, of which nothing was seen yet, for a caller who needs no pass.
+    pub fn past(&self) -> Past<L>
+        ensures { result ≡ [] }
+    {
+        self.past.again()
     }
 
     /// Publishes `item` in the channel at place `channel`, and returns how many items the channel has accepted with it. The pass counts it.
@@ -145,17 +165,22 @@ impl<L: Ledgers> Hub<L> {
         channel: usize,
         item: Item,
     ) -> Result<Stamped<u64>, HubFault>
-        ensures published { IfOk result (λ n. calls.IsPublished self.now channel item pass.old.seen pass.new.seen n) }
-        ensures counted { OnOk result ((pass.new.publishes ≡ pass.old.publishes + 1) × (pass.new.asks ≡ pass.old.asks)) }
+        ensures published { IfOk result (λ n. calls.IsPublished self.now channel item pass.old pass.new n) }
         ensures rung { OnOk result (IsRung channel (B.rung bell.old) (B.rung bell.new)) }
-        ensures refused { IfErr result (λ f. calls.IsPublishFault self.now channel item pass.old.seen f) }
-        ensures unchanged { OnErr result ((pass.new ≡ pass.old) × (B.rung bell.new ≡ B.rung bell.old)) }
+        ensures refused { IfErr result (λ f. calls.IsPublishFault self.now channel item pass.old pass.new f) }
+        ensures seen { OnErr result (calls.HasSeen pass.old pass.new) }
+        ensures unrung { OnErr result (B.rung bell.new ≡ B.rung bell.old) }
     {
         let (channel_lock, known) = self.locks.reach(channel, pass.seen(channel))?;
         let mut section = channel_lock.enter(rt);
-        let told = section
-            .state
-            .publish(rt, known, item, &self.publishes, &mut pass.counts);
+        let told = section.state.publish(
+            rt,
+            known,
+            item,
+            &self.publishes,
+            &mut pass.counts,
+            &mut pass.past,
+        );
         match told {
             Ok(count) => {
                 section.leave(bell, channel);
@@ -181,13 +206,14 @@ impl<L: Ledgers> Hub<L> {
         channel: usize,
         rendition: usize,
     ) -> Result<Option<Standing>, HubFault>
-        ensures standing { IfOk result (λ s. calls.IsPlaced self.now channel rendition pass.old.seen pass.new.seen s) }
-        ensures counts { (pass.new.publishes ≡ pass.old.publishes) × (pass.new.asks ≡ pass.old.asks) }
+        ensures standing { IfOk result (λ s. calls.IsPlaced self.now channel rendition pass.old pass.new s) }
         ensures refused { IfErr result (λ f. calls.IsUnplaced self.now pass.old.seen channel f) }
         ensures unchanged { OnErr result (pass.new ≡ pass.old) }
     {
         let (channel_lock, known) = self.locks.reach(channel, pass.seen(channel))?;
-        let standing = channel_lock.lock(rt).standing(known, rendition)?;
+        let standing = channel_lock
+            .lock(rt)
+            .standing(rt, known, rendition, &mut pass.past)?;
         if let Some(standing) = standing {
             pass.note(channel, standing.count);
         }
@@ -211,20 +237,13 @@ impl<L: Ledgers> Hub<L> {
         channel: usize,
         want: Want,
     ) -> Result<HubAsked, HubFault>
-        ensures asked { IfOk result (λ a. calls.IsAskedOf self.now channel want pass.old.seen pass.new.seen a) }
-        ensures counted { OnOk result ((pass.new.publishes ≡ pass.old.publishes) × (pass.new.asks ≡ pass.old.asks + 1)) }
+        ensures asked { IfOk result (λ a. calls.IsAskedOf (C.shows clock.now) self.now channel want pass.old pass.new a) }
         ensures rung { OnOk result (IsRung channel (B.rung bell.old) (B.rung bell.new)) }
-        ensures refused { IfErr result (λ f. calls.IsAskFault (C.shows clock.now) self.now channel pass.old.seen f) }
+        ensures refused { IfErr result (λ f. calls.IsAskFault (C.shows clock.now) self.now channel pass.old pass.new f) }
         ensures rung_too { IfErr result (λ f. IsRungBy f channel (B.rung bell.old) (B.rung bell.new)) }
-        ensures unchanged { OnErr result (pass.new ≡ pass.old) }
+        ensures seen { OnErr result (calls.HasSeen pass.old pass.new) }
     {
-        let (channel_lock, known) = self.locks.reach(channel, pass.seen(channel))?;
-        let mut section = channel_lock.enter(rt);
-        let answer = section
-            .state
-            .ask(rt, known, clock, want, &self.asks, &mut pass.counts);
-        section.leave(bell, channel);
-        match answer? {
+        match self.ask_there(rt, clock, bell, pass, channel, want)? {
             AtOnce::Now(reply) => {
                 pass.note_reply(channel, reply.get());
                 Ok(HubAsked::Now(reply))
@@ -233,107 +252,51 @@ impl<L: Ledgers> Hub<L> {
         }
     }
 
-    /// Waits for the reply to a held request. The claim is spent, even if the hub doesn't hold the request.
-    pub fn wait<R: Wait>(
+    /// Does that, but doesn't note which items the pass has seen.
+    fn ask_there<C: Clock, B: Bell, R: Wait>(
         &self,
         rt: &R,
+        clock: &C,
+        bell: &mut B,
         pass: &mut Pass<L>,
-        claim: Claim,
-    ) -> Result<Stamped<Reply>, HubFault>
-        ensures replied { IfOk result (λ r. calls.IsReplied self.now claim pass.old.seen pass.new.seen r) }
-        ensures counts { (pass.new.publishes ≡ pass.old.publishes) × (pass.new.asks ≡ pass.old.asks) }
-        ensures refused { IfErr result (λ f. calls.IsWaitFault self.now claim.channel f) }
-        ensures unchanged { OnErr result (pass.new ≡ pass.old) }
+        channel: usize,
+        want: Want,
+    ) -> Result<AtOnce, HubFault>
+        ensures asked { IfOk result (λ a. calls.IsAskedThere (C.shows clock.now) self.now channel want pass.old pass.new a) }
+        ensures rung { OnOk result (IsRung channel (B.rung bell.old) (B.rung bell.new)) }
+        ensures refused { IfErr result (λ f. calls.IsAskFault (C.shows clock.now) self.now channel pass.old pass.new f) }
+        ensures rung_too { IfErr result (λ f. IsRungBy f channel (B.rung bell.old) (B.rung bell.new)) }
+        ensures seen { OnErr result (calls.HasSeen pass.old pass.new) }
     {
-        let channel = claim.channel();
-        let entry = claim.spend();
-        let (channel_lock, known) = self.locks.reach(channel, Some(0))?;
-        let reply = channel_lock.wait(rt, known, entry)?;
-        pass.note_reply(channel, reply.get());
-        Ok(reply)
-    }
-
-    /// Waits for the reply to a held request, no longer than about `limit`. Takes the channel's lock at first, and once more after each
-    /// wake-up. If the clock can't be read, the limit counts as over. The claim is spent, even if the hub doesn't hold the request, unless
-    /// it is returned.
-    pub fn wait_within<R: Wait + time::Clock>(
-        &self,
-        rt: &R,
-        pass: &mut Pass<L>,
-        claim: Claim,
-        limit: Duration,
-    ) -> Result<Waited, HubFault>
-        ensures waited { IfOk result (λ w. calls.IsWaited self.now claim pass.old.seen pass.new.seen w) }
-        ensures counts { (pass.new.publishes ≡ pass.old.publishes) × (pass.new.asks ≡ pass.old.asks) }
-        ensures refused { IfErr result (λ f. calls.IsWaitFault self.now claim.channel f) }
-        ensures unchanged { OnErr result (pass.new ≡ pass.old) }
-    {
-        let channel = claim.channel();
-        let entry = claim.spend();
-        let (channel_lock, known) = self.locks.reach(channel, Some(0))?;
-        match channel_lock.wait_within(rt, known, entry, limit)? {
-            Some(reply) => {
-                pass.note_reply(channel, reply.get());
-                Ok(Waited::Reply(reply))
-            }
-            None => Ok(Waited::Still(Claim::new(channel, entry))),
-        }
-    }
-
-    /// Returns the reply to a held request if it is there, and else the claim. The claim is spent, even if the hub doesn't hold the request,
-    /// unless it is returned.
-    pub fn collect<R: Wait>(
-        &self,
-        rt: &R,
-        pass: &mut Pass<L>,
-        claim: Claim,
-    ) -> Result<Waited, HubFault>
-        ensures waited { IfOk result (λ w. calls.IsWaited self.now claim pass.old.seen pass.new.seen w) }
-        ensures counts { (pass.new.publishes ≡ pass.old.publishes) × (pass.new.asks ≡ pass.old.asks) }
-        ensures refused { IfErr result (λ f. calls.IsWaitFault self.now claim.channel f) }
-        ensures unchanged { OnErr result (pass.new ≡ pass.old) }
-    {
-        let channel = claim.channel();
-        let entry = claim.spend();
-        let (channel_lock, known) = self.locks.reach(channel, Some(0))?;
-        match channel_lock.collect(rt, known, entry)? {
-            Some(reply) => {
-                pass.note_reply(channel, reply.get());
-                Ok(Waited::Reply(reply))
-            }
-            None => Ok(Waited::Still(Claim::new(channel, entry))),
-        }
-    }
-
-    /// Keeps those of `tickets` that are held requests of the channel at place `channel` and have their reply, so that a caller who holds
-    /// many claims knows which to collect. If there is no such channel, none is kept.
-    pub fn keep_ready<R: Wait>(&self, rt: &R, channel: usize, tickets: &mut Vec<u64>)
-        ensures { slice_get self.now channel ≡ None → tickets.new.items ≡ [] }
-    {
-        match self.locks.reach(channel, Some(0)) {
-            Ok((channel_lock, _)) => channel_lock.keep_ready(rt, tickets),
-            Err(_) => tickets.clear(),
-        }
-    }
-
-    /// Closes a held request: it gets no reply. The claim is spent; returns whether the hub held the request.
-    pub fn close<R: Wait>(&self, rt: &R, claim: Claim) -> bool
-        ensures { slice_get self.now claim.channel ≡ None → result ≡ false }
-    {
-        let channel = claim.channel();
-        let entry = claim.spend();
-        match self.locks.reach(channel, Some(0)) {
-            Ok((channel_lock, known)) => channel_lock.lock(rt).close(known, entry),
-            Err(_) => false,
-        }
+        let (channel_lock, known) = self.locks.reach(channel, pass.seen(channel))?;
+        let mut section = channel_lock.enter(rt);
+        let answer = section.state.ask(
+            rt,
+            known,
+            clock,
+            want,
+            &self.asks,
+            &mut pass.counts,
+            &mut pass.past,
+        );
+        section.leave(bell, channel);
+        answer
     }
 
     /// Passes a reading of the clock, in milliseconds, to each channel in order, up to the first that refuses it.
-    pub fn tick<B: Bell, R: Wait>(&self, rt: &R, bell: &mut B, ms: u64) -> Result<(), HubFault>
-        ensures refused { IfErr result (λ f. calls.IsTickFault self.now ms f) }
+    pub fn tick<B: Bell, R: Wait>(
+        &self,
+        rt: &R,
+        bell: &mut B,
+        past: &mut Past<L>,
+        ms: u64,
+    ) -> Result<(), HubFault>
+        ensures ticked { OnOk result (calls.AreTicked past.old past.new 0 (length self.now) ms) }
+        ensures refused { IfErr result (λ f. calls.IsTickFault self.now 0 ms past.old past.new f) }
+        ensures grows { IsPrefix past.old past.new }
         ensures rung { OnOk result (IsRungFrom 0 (length self.now) (B.rung bell.old) (B.rung bell.new)) }
     {
-        self.tick_from(rt, bell, 0, ms)
+        self.tick_from(rt, bell, past, 0, ms)
     }
 
     /// Passes a reading of the clock, in milliseconds, to each channel from place `first` on, in order, up to the first that refuses it.
@@ -341,16 +304,18 @@ impl<L: Ledgers> Hub<L> {
         &self,
         rt: &R,
         bell: &mut B,
+        past: &mut Past<L>,
         first: usize,
         ms: u64,
     ) -> Result<(), HubFault>
-        ensures refused { IfErr result (λ f. calls.IsTickFault self.now ms f) }
-        ensures from { IfErr result (λ f. calls.IsFrom first f) }
+        ensures ticked { OnOk result (calls.AreTicked past.old past.new first (length self.now) ms) }
+        ensures refused { IfErr result (λ f. calls.IsTickFault self.now first ms past.old past.new f) }
+        ensures grows { IsPrefix past.old past.new }
         ensures rung { OnOk result (first ≤ length self.now → IsRungFrom first (length self.now) (B.rung bell.old) (B.rung bell.new)) }
         ensures rung_to { IfErr result (λ f. IsRungTo first f (B.rung bell.old) (B.rung bell.new)) }
     {
         for channel in first..self.locks.len() {
-            if let Err(fault) = self.locks.tick(rt, bell, channel, ms) {
+            if let Err(fault) = self.tick_one(rt, bell, past, channel, ms) {
                 return Err(HubFault::Room {
                     channel,
                     fault: RoomFault::Clock(fault),
@@ -360,17 +325,47 @@ impl<L: Ledgers> Hub<L> {
         Ok(())
     }
 
+    /// Passes a reading of the clock, in milliseconds, to the channel at place `channel`.
+    fn tick_one<B: Bell, R: Wait>(
+        &self,
+        rt: &R,
+        bell: &mut B,
+        past: &mut Past<L>,
+        channel: usize,
+        ms: u64,
+    ) -> Result<(), ClockFault>
+        requires { channel < length self.now }
+        ensures ticked { OnOk result (HasTicked past.old past.new channel ms) }
+        ensures refused { IfErr result (λ f. (settings : Configuration) × (slice_get self.now channel ≡ Some settings)
+            × HasNotTicked past.old past.new channel settings ms f) }
+        ensures rung { IsRung channel (B.rung bell.old) (B.rung bell.new) }
+    {
+        let Ok((channel_lock, known)) = self.locks.reach(channel, Some(0)) else {
+            unreachable!();
+        };
+        channel_lock.tick(rt, bell, known, ms, past)
+    }
+
     /// Hands out the record of the channel at place `channel`, and begins another. No reply changes by it. The first of these that applies
     /// refuses it:
     ///
     /// 1. There is no channel at that place: UnknownChannel.
     /// 2. Out of memory: Memory.
-    pub fn rotate<R: Wait>(&self, rt: &R, channel: usize) -> Result<Chunk, HubFault>
-        ensures handed_out { IfOk result (λ k. calls.IsRotated self.now channel k) }
+    pub fn rotate<R: Wait>(
+        &self,
+        rt: &R,
+        past: &mut Past<L>,
+        channel: usize,
+    ) -> Result<Chunk, HubFault>
+        ensures handed_out { IfOk result (λ k. calls.IsRotated self.now channel past.old past.new k) }
         ensures refused { IfErr result (λ f. calls.IsRotateFault self.now channel f) }
+        ensures unseen { OnErr result (past.new ≡ past.old) }
     {
         let (channel_lock, known) = self.locks.reach(channel, Some(0))?;
-        channel_lock.lock(rt).rotate(known)
+        match channel_lock.lock(rt).rotate(rt, known, past) {
+            Ok(chunk) => Ok(chunk),
+            Err(AllocError) => Err(HubFault::Memory),
+        }
     }
 
     /// Hands the record of the channel at place `channel` to `sink`, once, as [`Hub::rotate`] hands it out. The channel stays locked until
@@ -378,15 +373,20 @@ impl<L: Ledgers> Hub<L> {
     pub fn rotate_to<K: Sink, R: Wait>(
         &self,
         rt: &R,
+        past: &mut Past<L>,
         channel: usize,
         sink: &mut K,
     ) -> Result<(), HubFault>
-        ensures taken { OnOk result (calls.IsHandedTo self.now channel (K.taken sink.old) (K.taken sink.new)) }
+        ensures taken { OnOk result (calls.IsHandedTo self.now channel past.old past.new (K.taken sink.old) (K.taken sink.new)) }
         ensures refused { IfErr result (λ f. calls.IsRotateFault self.now channel f) }
         ensures untaken { OnErr result (K.taken sink.new ≡ K.taken sink.old) }
+        ensures unseen { OnErr result (past.new ≡ past.old) }
     {
         let (channel_lock, known) = self.locks.reach(channel, Some(0))?;
-        channel_lock.lock(rt).rotate_to(known, sink)
+        match channel_lock.rotate_to(rt, known, sink, past) {
+            Ok(()) => Ok(()),
+            Err(AllocError) => Err(HubFault::Memory),
+        }
     }
 
     /// Closes all held requests, and spends the hub and the passes, even if it fails. The channels have accepted as many items, and were
@@ -395,7 +395,7 @@ impl<L: Ledgers> Hub<L> {
     /// 1. Out of memory: Memory.
     /// 2. Fewer passes come back than were given; there are never more: Short.
     pub fn finish(self, passes: Vec<Pass<L>>) -> Result<Totals, HubFault>
-        ensures totals { IfOk result (λ t. calls.AreTotals self t.channels.items) }
+        ensures totals { IfOk result (λ t. calls.IsFinished self passes.items t.channels.items) }
         ensures each { IfOk result (λ t. length t.channels.items ≡ length self) }
         ensures publishes { IfOk result (λ t. sum (map (λ c. c.publishes) t.channels.items) ≡ sum (map (λ p. p.publishes) passes.items)) }
         ensures asks { IfOk result (λ t. sum (map (λ c. c.asks) t.channels.items) ≡ sum (map (λ p. p.asks) passes.items)) }
@@ -414,7 +414,7 @@ impl<L: Ledgers> Hub<L> {
     fn settle(self, passes: Vec<Pass<L>>, channels: &mut Vec<Total>) -> Result<(), HubFault>
         requires none { channels.old.items ≡ [] }
         requires room { length self ≤ vec_capacity channels.old }
-        ensures totals { OnOk result (calls.AreTotals self channels.new.items) }
+        ensures totals { OnOk result (calls.IsFinished self passes.items channels.new.items) }
         ensures each { length channels.new.items ≡ length self }
         ensures publishes { OnOk result (sum (map (λ c. c.publishes) channels.new.items) ≡ sum (map (λ p. p.publishes) passes.items)) }
         ensures asks { OnOk result (sum (map (λ c. c.asks) channels.new.items) ≡ sum (map (λ p. p.asks) passes.items)) }
@@ -422,6 +422,7 @@ impl<L: Ledgers> Hub<L> {
     {
         let Hub {
             locks,
+            mut past,
             seats,
             publishes,
             asks,
@@ -431,9 +432,9 @@ impl<L: Ledgers> Hub<L> {
             passes: rest,
             given,
         } = seats.into_inner();
-        let at_home = locks.finish(channels, &mut all);
         let returned = passes.len() as u64;
-        let mut both = gather(rest, passes);
+        let mut both = gather(rest, passes, &mut past);
+        let at_home = locks.finish(channels, &mut all, &mut past);
         if returned != given {
             return Err(HubFault::Short);
         }
@@ -452,46 +453,31 @@ impl<L: Ledgers> Hub<L> {
     fn end(self) {
         let Hub {
             locks,
+            mut past,
             seats: _seats,
             publishes: _publishes,
             asks: _asks,
         } = self;
-        locks.end();
+        locks.end(&mut past);
     }
 }
 
-/// Returns `channels`, to which nothing has happened, each under its own lock and with its shares of `rest`.
-fn lock_each<L: Ledgers>(
-    alloc: Global,
-    channels: Vec<Settings>,
-    rest: &mut ChannelCounts<L>,
-) -> Result<ChannelLocks<L>, AllocError>
-    requires most { length channels.items ≤ 1024 }
-    requires rest { rest.old ≡ blank all_parts }
-    ensures locks { IfOk result (λ l. l ≡ channels.items) }
-    ensures rest { OnOk result (IsRest rest.new (length channels.items)) }
-{
-    let mut locks = ChannelLocks::new(alloc);
-    for settings in channels {
-        if locks.add(settings, rest.give()).is_err() {
-            locks.end();
-            return Err(AllocError);
-        }
-    }
-    Ok(locks)
-}
-
-/// Returns the shares of all `passes`, merged into `rest`.
-fn gather<L: Ledgers>(rest: PassCounts<L>, passes: Vec<Pass<L>>) -> PassCounts<L>
+/// Returns the shares of all `passes`, merged into `rest`. `past` sees what they have seen.
+fn gather<L: Ledgers>(
+    rest: PassCounts<L>,
+    passes: Vec<Pass<L>>,
+    past: &mut Past<L>,
+) -> PassCounts<L>
     requires { rest.parts ≤ 65537 }
     ensures parts { result.parts ≡ rest.parts + length passes.items }
     ensures most { result.parts ≤ 65537 }
     ensures publishes { result.publishes ≡ rest.publishes + sum (map (λ p. p.publishes) passes.items) }
     ensures asks { result.asks ≡ rest.asks + sum (map (λ p. p.asks) passes.items) }
+    ensures seen { (place : ℕ) (pass : PassValue) → slice_get passes.items place ≡ Some pass → IsPrefix pass.history past.new }
 {
     let mut all = rest;
     for pass in passes {
-        all.merge(pass.into_counts());
+        all.merge(pass.into_counts(past));
     }
     all
 }

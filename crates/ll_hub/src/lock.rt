@@ -1,19 +1,28 @@
 //! The lock of one channel, and how those that wait for its replies are woken.
-ghost use Rattle.std.specs.Prelude.{◌≡◌, ◌-◌, Some, IfErr, IfOk, IfSome, IsTrue, filter, length, slice_get};
+ghost use Rattle.std.specs.Prelude.{◌≡◌, ◌-◌, ◌&&◌, ◌+◌, Some, IfErr, IfOk, IfSome, IsTrue, MatchBool, MatchOption, OnErr, OnOk, filter, length, slice_get};
 ghost use Rattle.std.specs.Sync.Mutex.{mutex_guard_value};
+ghost use mathlib.Core.List.{IsPrefix};
+ghost use Rattle.ll_history.specs.History.{deeds_at};
 ghost use Rattle.ll_hub.specs.Rung.{IsRung, Rings};
+ghost use Rattle.ll_hub_channel.specs.Deeds.{events_of};
 ghost use Rattle.ll_hub_channel.specs.Section.{IsAt};
-ghost use Rattle.ll_hub_channel.specs.Told.{IsDecided, IsReadingRefused, IsTotal};
+ghost use Rattle.ll_hub_channel.specs.Told.{IsTotalOf};
+ghost use Rattle.ll_ledger.specs.Sections as has;
+ghost use Rattle.ll_record.specs.Chunk.{ChunkValue};
+ghost use Rattle.ll_record.specs.Taken.{Takes};
 ghost use Rattle.ll_settings.specs.Settings.{Configuration};
 ghost use Rattle.ll_room.specs.declared.stamped.Stamp.TheVariants as stamp;
 ghost use Rattle.ll_verdict.specs.Waiting.{is_ready};
 
 use crate::bell::Bell;
-use crate::counted::Counted;
-use ll_hub_channel::{ChannelCounts, HubFault, Known, Ledgers, Total, Tried};
+use ll_history::Past;
+use ll_hub_channel::{HubFault, Known, Total, Tried};
+use ll_ledger::{ChannelCounts, CountedChannel, Ledgers};
+use ll_record::{Chunk, Sink};
 use ll_room::Stamped;
 use ll_settings::Channels;
 use ll_verdict::{ClockFault, Entry, Reply};
+use std::alloc::AllocError;
 use std::sync::atomic::{AtomicU64, AtomicUsize, Ordering};
 use std::sync::{Condvar, Mutex, MutexGuard, Wait};
 use std::time::{Clock, Duration, Instant};
@@ -27,7 +36,7 @@ const WOKEN: usize = 64;
 
 /// One channel's lock, and what wakes those that wait for replies.
 pub(crate) struct ChannelLock<L: Ledgers> {
-    state: Mutex<Counted<L>>,
+    state: Mutex<CountedChannel<L>>,
     changed: Condvar,
     /// The number of callers that wait for replies.
     waiters: AtomicUsize,
@@ -39,12 +48,12 @@ pub(crate) struct ChannelLock<L: Ledgers> {
 /// there is no way to let go of the lock and to ring for nobody.
 pub(crate) struct Section<'a, L: Ledgers> {
     channel_lock: &'a ChannelLock<L>,
-    pub(crate) state: MutexGuard<'a, Counted<L>>,
+    pub(crate) state: MutexGuard<'a, CountedChannel<L>>,
     ready: usize,
 }
 
 impl<L: Ledgers> ChannelLock<L> {
-    pub(crate) fn new(channel: Counted<L>) -> ChannelLock<L> {
+    pub(crate) fn new(channel: CountedChannel<L>) -> ChannelLock<L> {
         ChannelLock {
             state: Mutex::new(channel),
             changed: Condvar::new(),
@@ -54,7 +63,7 @@ impl<L: Ledgers> ChannelLock<L> {
     }
 
     /// Takes the lock.
-    pub(crate) fn lock<R: Wait>(&self, rt: &R) -> MutexGuard<'_, Counted<L>> {
+    pub(crate) fn lock<R: Wait>(&self, rt: &R) -> MutexGuard<'_, CountedChannel<L>> {
         for _ in 0..TRIES {
             if let Some(state) = self.state.try_lock() {
                 return state;
@@ -79,7 +88,7 @@ impl<L: Ledgers> ChannelLock<L> {
     /// Returns whether a waiter that was woken is to wake another: if replies are there that weren't collected, and it has woken none since
     /// replies last came. Waiters are woken in the order in which they began to wait, so one that is woken again comes after all whose
     /// replies are there.
-    fn wakes_another(&self, state: &Counted<L>, woken: &mut u64) -> bool {
+    fn wakes_another(&self, state: &CountedChannel<L>, woken: &mut u64) -> bool {
         let releases = self.releases.load(Ordering::SeqCst);
         let wakes = *woken < releases && state.ready() > 0;
         *woken = releases;
@@ -87,27 +96,29 @@ impl<L: Ledgers> ChannelLock<L> {
     }
 
     /// Releases the lock, and then wakes another waiter if `wakes`, so that it finds the lock free.
-    fn unlock(&self, state: MutexGuard<'_, Counted<L>>, wakes: bool) {
+    fn unlock(&self, state: MutexGuard<'_, CountedChannel<L>>, wakes: bool) {
         drop(state);
         if wakes {
             self.changed.notify_one();
         }
     }
 
-    /// Passes a reading of the clock, in milliseconds, to the channel, which is the one at place `place`.
+    /// Passes a reading of the clock, in milliseconds, to the channel.
     pub(crate) fn tick<B: Bell, R: Wait>(
         &self,
         rt: &R,
         bell: &mut B,
-        place: usize,
+        known: Known<'_>,
         ms: u64,
+        past: &mut Past<L>,
     ) -> Result<(), ClockFault>
-        ensures refused { IfErr result (λ f. IsReadingRefused ms f) }
-        ensures rung { IsRung place (B.rung bell.old) (B.rung bell.new) }
+        ensures ticked { OnOk result (has.HasTicked past.old past.new known.entry.place ms) }
+        ensures refused { IfErr result (λ f. has.HasNotTicked past.old past.new known.entry.place known.entry.settings.now ms f) }
+        ensures rung { IsRung known.entry.place (B.rung bell.old) (B.rung bell.new) }
     {
         let mut section = self.enter(rt);
-        let told = section.state.tick(ms);
-        section.leave(bell, place);
+        let told = section.state.tick(rt, known, ms, past);
+        section.leave(bell, known.place);
         told
     }
 
@@ -116,18 +127,41 @@ impl<L: Ledgers> ChannelLock<L> {
         self.lock(rt).keep_ready(tickets);
     }
 
+    /// Hands the record of the channel to `sink`, and begins another. The channel stays locked until the sink has taken it.
+    pub(crate) fn rotate_to<K: Sink, R: Wait>(
+        &self,
+        rt: &R,
+        known: Known<'_>,
+        sink: &mut K,
+        past: &mut Past<L>,
+    ) -> Result<(), AllocError>
+        ensures taken { OnOk result ((chunk : ChunkValue) × has.HasHandedOut past.old past.new known.entry.place known.entry.settings.now chunk
+            × Takes (K.taken sink.old) (K.taken sink.new) known.entry.place chunk) }
+        ensures unchanged { OnErr result ((past.new ≡ past.old) × (K.taken sink.new ≡ K.taken sink.old)) }
+    {
+        let mut state = self.lock(rt);
+        match state.rotate(rt, known, past) {
+            Ok(chunk) => {
+                sink.take(known.place, chunk);
+                Ok(())
+            }
+            Err(AllocError) => Err(AllocError),
+        }
+    }
+
     /// Returns the reply to the held request `entry`; `None` if it isn't there yet.
     pub(crate) fn collect<R: Wait>(
         &self,
         rt: &R,
         known: Known<'_>,
         entry: Entry,
+        past: &mut Past<L>,
     ) -> Result<Option<Stamped<Reply>>, HubFault>
         ensures replied { IfOk result (λ o. IfSome o (λ r. (r.room ≡ known.entry.place) × (r.stamp ≡ stamp.Collect entry.ticket))) }
-        ensures decided { IfOk result (λ o. IfSome o (λ r. IsDecided known.entry.settings.now entry r.value)) }
-        ensures stranger { IfErr result (λ f. f ≡ HubFault.Stranger) }
+        ensures decided { IfOk result (λ o. MatchOption o (past.new ≡ past.old) (λ r. has.HasDecided past.old past.new known.entry.place known.entry.settings.now entry r.value)) }
+        ensures stranger { IfErr result (λ f. (f ≡ HubFault.Stranger) × has.HasNone past.old past.new known.entry.place known.entry.settings.now entry) }
     {
-        match self.lock(rt).collect(known, entry) {
+        match self.lock(rt).collect(rt, known, entry, past) {
             Tried::Got(reply) => Ok(Some(reply)),
             Tried::Still => Ok(None),
             Tried::Stranger => Err(HubFault::Stranger),
@@ -140,15 +174,16 @@ impl<L: Ledgers> ChannelLock<L> {
         rt: &R,
         known: Known<'_>,
         entry: Entry,
+        past: &mut Past<L>,
     ) -> Result<Stamped<Reply>, HubFault>
         ensures replied { IfOk result (λ r. (r.room ≡ known.entry.place) × (r.stamp ≡ stamp.Collect entry.ticket)) }
-        ensures decided { IfOk result (λ r. IsDecided known.entry.settings.now entry r.value) }
-        ensures stranger { IfErr result (λ f. f ≡ HubFault.Stranger) }
+        ensures decided { IfOk result (λ r. has.HasDecided past.old past.new known.entry.place known.entry.settings.now entry r.value) }
+        ensures stranger { IfErr result (λ f. (f ≡ HubFault.Stranger) × has.HasNone past.old past.new known.entry.place known.entry.settings.now entry) }
     {
         let mut state = self.lock(rt);
         let mut woken = self.releases.load(Ordering::SeqCst);
         for _ in rt.forever() {
-            let tried = state.collect(known, entry);
+            let tried = state.collect(rt, known, entry, past);
             let wakes = self.wakes_another(&state, &mut woken);
             match tried {
                 Tried::Got(reply) => {
@@ -178,16 +213,17 @@ impl<L: Ledgers> ChannelLock<L> {
         known: Known<'_>,
         entry: Entry,
         limit: Duration,
+        past: &mut Past<L>,
     ) -> Result<Option<Stamped<Reply>>, HubFault>
         ensures replied { IfOk result (λ o. IfSome o (λ r. (r.room ≡ known.entry.place) × (r.stamp ≡ stamp.Collect entry.ticket))) }
-        ensures decided { IfOk result (λ o. IfSome o (λ r. IsDecided known.entry.settings.now entry r.value)) }
-        ensures stranger { IfErr result (λ f. f ≡ HubFault.Stranger) }
+        ensures decided { IfOk result (λ o. MatchOption o (past.new ≡ past.old) (λ r. has.HasDecided past.old past.new known.entry.place known.entry.settings.now entry r.value)) }
+        ensures stranger { IfErr result (λ f. (f ≡ HubFault.Stranger) × has.HasNone past.old past.new known.entry.place known.entry.settings.now entry) }
     {
         let start = Instant::now(rt).ok();
         let mut state = self.lock(rt);
         let mut woken = self.releases.load(Ordering::SeqCst);
         for _ in rt.forever() {
-            let tried = state.collect(known, entry);
+            let tried = state.collect(rt, known, entry, past);
             let wakes = self.wakes_another(&state, &mut woken);
             match tried {
                 Tried::Got(reply) => {
@@ -214,15 +250,18 @@ impl<L: Ledgers> ChannelLock<L> {
     }
 
     /// Closes all held requests, and returns the channel's total and its shares. Sets `at_home` to false if it isn't the channel at
-    /// `place`.
+    /// `place`, or if `past` hasn't seen all that was done to it then.
     pub(crate) fn finish(
         self,
         channels: &Channels,
         place: usize,
+        past: &mut Past<L>,
         at_home: &mut bool,
     ) -> (Total, ChannelCounts<L>)
         ensures shares { result.1 ≡ record { parts = 1; publishes = result.0.publishes; asks = result.0.asks } }
-        ensures total { (settings : Configuration) → IsTrue at_home.new → slice_get channels.now place ≡ Some settings → IsTotal place settings result.0 }
+        ensures grows { IsPrefix past.old past.new }
+        ensures total { (settings : Configuration) → IsTrue at_home.new → slice_get channels.now place ≡ Some settings
+            → IsTotalOf settings (events_of settings (deeds_at place past.new)) result.0 }
         ensures noted { IsTrue at_home.new → IsTrue at_home.old }
     {
         let ChannelLock {
@@ -232,19 +271,21 @@ impl<L: Ledgers> ChannelLock<L> {
             releases: _,
         } = self;
         let channel = state.into_inner();
-        *at_home &= is_at(&channel, channels, place);
-        channel.finish()
+        let here = is_at(&channel, channels, place);
+        let (total, counts, seen) = channel.finish(past);
+        *at_home &= here & seen;
+        (total, counts)
     }
 
     /// Closes all held requests.
-    pub(crate) fn end(self) {
+    pub(crate) fn end(self, past: &mut Past<L>) {
         let ChannelLock {
             state,
             changed: _,
             waiters: _,
             releases: _,
         } = self;
-        state.into_inner().finish();
+        state.into_inner().finish(past);
     }
 }
 
@@ -291,7 +332,7 @@ fn left<R: Clock>(rt: &R, start: Option<Instant>, limit: Duration) -> Option<Dur
 }
 
 /// Returns whether `channel` is the one at `place`.
-fn is_at<L: Ledgers>(channel: &Counted<L>, channels: &Channels, place: usize) -> bool
+fn is_at<L: Ledgers>(channel: &CountedChannel<L>, channels: &Channels, place: usize) -> bool
     ensures { (settings : Configuration) → IsTrue result → slice_get channels.now place ≡ Some settings → IsAt channel.now place settings }
 {
     match channels.get(place) {

@@ -1,5 +1,5 @@
-pub mod AskLemmas
 pub mod CountLemmas
+pub mod DeedLemmas
 pub mod FaultLemmas
 pub mod LastLemmas
 pub mod ParkedLemmas

@@ -1,5 +1,5 @@
 -- What a room's answers say of the events that it stands for.
-use Rattle.std.proofs.Common.{◌≡◌, ℕ, ◌+◌, ◌*◌, ◌≤◌, ◌<◌, ◌==◌, ◌&&◌, ◌||◌, List, [], ◌∷◌, ◌++◌, Bool, true, false, not, cond, Option, Some, None, MatchOption, is_some, refl, ap, ap₂, ◌∙◌, sym, subst, filter, find, length, map, option_and_then, option_map, slice_get, suc, arith}
+use Rattle.std.proofs.Common.{◌≡◌, ◌≢◌, ℕ, ◌+◌, ◌*◌, ◌≤◌, ◌<◌, ◌==◌, ◌&&◌, ◌||◌, List, [], ◌∷◌, ◌++◌, Bool, true, false, not, cond, Option, Some, None, MatchOption, is_some, refl, ap, ap₂, ◌∙◌, sym, subst, filter, find, length, map, option_and_then, option_map, slice_get, suc, arith}
 use Rattle.std.proofs.lemmas.Bool.Decides.{nat_tests}
 use Rattle.std.proofs.lemmas.List.{append_cancel_right, map-append}
 use Rattle.std.specs.List.{list_any}
@@ -19,6 +19,8 @@ use Rattle.ll_room.specs.declared.asked.Asked.TheVariants.{Now, Held}
 use Rattle.ll_room.specs.declared.asked.Closed.TheVariants as given_up
 use Rattle.ll_room.specs.declared.asked.Collected.TheVariants.{Got}
 use Rattle.ll_room.specs.declared.stamped.Stamp.TheVariants as stamp
+use Rattle.ll_rendition.specs.declared.fault.PublishFault.{PublishFault}
+use Rattle.ll_rendition.specs.declared.fault.PublishFault.TheVariants as fault
 use Rattle.ll_verdict.proofs.StateLemmas.{state-snoc, at_once-is}
 use Rattle.ll_verdict.specs.Events.{Event, Ask, items}
 use Rattle.ll_verdict.specs.Standing.{standing}
@@ -34,20 +36,25 @@ use Rattle.ll_verdict.specs.declared.standing.Standing.{Standing}
 use Rattle.ll_verdict.specs.declared.wanted.Wanted.{Wanted}
 use Rattle.ll_hub_channel.proofs.CountLemmas.{asks-is, count-is, none_before}
 use Rattle.ll_hub_channel.specs.Channel.{IsChannel, parked_for, ticket_at}
-use Rattle.ll_hub_channel.specs.Section.{IsAsCounted, IsMet, IsToldAfter}
-use Rattle.ll_hub_channel.specs.Told.{HasToWait, IsAccepted, IsAnswered, IsDecidedIn, IsHeld, IsStanding}
+use Rattle.ll_hub_channel.specs.Section.{IsAsCounted, IsAskedBy, IsMet}
+use Rattle.ll_hub_channel.specs.Told.{HasToWait, IsAccepted, IsDecided, IsHeld, IsRefused, IsStanding}
 use Rattle.ll_hub_channel.specs.declared.channel.AtOnce.TheVariants as told
 
 -- ---- items
 
 pub accepted : (r : Recording) (es : List Event) (i : Item) (seen n : ℕ) → IsRecorded r es → record_refusal r es i ≡ None → seen ≤ r.room.count → n ≡ r.room.count + 1
-    → IsAccepted r.room.settings i seen n
+    → IsAccepted r.room.settings es i seen n
 accepted r es i seen n recorded free later is = record {
-  events = es;
   allowed = none_before (refusal_after r.room.settings es i) (full_by (is_record_full r)) free;
   counted = is ∙ ap (λ k. k + 1) (count-is r.room es recorded.stands);
   later = omega (arith, later, is);
 }
+
+-- an item that a rule refuses, or that finds no memory
+pub refused : (r : Recording) (es : List Event) (i : Item) (seen : ℕ) (f : PublishFault) → IsRecorded r es → seen ≤ r.room.count
+    → (f ≢ fault.Memory → record_refusal r es i ≡ Some f) → (f ≡ fault.Memory → record_refusal r es i ≡ None) → IsRefused r.room.settings es (is_record_full r) i seen f
+refused r es i seen f recorded later rule memory =
+    record { rule = rule; memory = memory; later = subst (λ n. seen ≤ n) (count-is r.room es recorded.stands) later }
 
 -- ---- places
 
@@ -57,39 +64,28 @@ Places h es rendition o =
     MatchOption o (length h.settings.renditions ≤ rendition) (λ s. (rendition < length h.settings.renditions) × (s ≡ standing h.settings (items h.settings es) rendition))
 
 placed : (r : Recording) (es : List Event) (rendition : ℕ) (o : Option Standing) → IsRecorded r es → Places r.room es rendition o
-    → MatchOption o (length r.room.settings.renditions ≤ rendition) (IsStanding r.room.settings rendition r.room.count)
+    → MatchOption o (length r.room.settings.renditions ≤ rendition) (IsStanding r.room.settings es rendition r.room.count)
 placed r es rendition None recorded none = none
 placed r es rendition (Some s) recorded told =
     let count = count-is r.room es recorded.stands in
     let same = ap (λ (x : Standing). x.count) told.1 in
     let later : r.room.count ≤ s.count = omega (arith, count, same) in
-    record { events = es; there = told.0; stands = told.1; later = later }
-
-only-place : (h : RoomValue) (es : List Event) (rendition : ℕ) (o : Option Standing) → Places h es rendition o
-    → MatchOption o (length h.settings.renditions ≤ rendition) (λ s. s ≡ standing h.settings (items h.settings es) rendition)
-only-place h es rendition None none = none
-only-place h es rendition (Some s) told = told.1
+    record { there = told.0; stands = told.1; later = later }
 
 -- where a rendition stands after the events that are recorded, as the recorder's room says
 pub stands-there : (r : Recording) (h : RoomValue) (es : List Event) (rendition : ℕ) (o : Option Standing) → h ≡ r.room → IsRecorded r es
-    → (Stands h es → Places h es rendition o) → MatchOption o (length r.room.settings.renditions ≤ rendition) (IsStanding r.room.settings rendition r.room.count)
+    → (Stands h es → Places h es rendition o) → MatchOption o (length r.room.settings.renditions ≤ rendition) (IsStanding r.room.settings es rendition r.room.count)
 stands-there r h es rendition o at recorded told =
     placed r es rendition o recorded (subst (λ k. Stands k es → Places k es rendition o) at told recorded.stands)
 
-pub stands-exactly : (r : Recording) (h : RoomValue) (es : List Event) (rendition : ℕ) (o : Option Standing) → h ≡ r.room → IsRecorded r es
-    → (Stands h es → Places h es rendition o)
-    → MatchOption o (length r.room.settings.renditions ≤ rendition) (λ s. s ≡ standing r.room.settings (items r.room.settings es) rendition)
-stands-exactly r h es rendition o at recorded told =
-    only-place r.room es rendition o (subst (λ k. Stands k es → Places k es rendition o) at told recorded.stands)
-
 -- the same in the room that the caller has met
-pub met-stands : (r : Recording) (place : ℕ) (c : Configuration) (seen rendition : ℕ) (o : Option Standing) → IsMet r place c seen
-    → MatchOption o (length r.room.settings.renditions ≤ rendition) (IsStanding r.room.settings rendition r.room.count)
-    → MatchOption o (length c.renditions ≤ rendition) (IsStanding c rendition seen)
-met-stands r place c seen rendition None met none = subst (λ (s : Configuration). length s.renditions ≤ rendition) met.settings none
-met-stands r place c seen rendition (Some s) met there =
+pub met-stands : (r : Recording) (place : ℕ) (c : Configuration) (es : List Event) (seen rendition : ℕ) (o : Option Standing) → IsMet r place c seen
+    → MatchOption o (length r.room.settings.renditions ≤ rendition) (IsStanding r.room.settings es rendition r.room.count)
+    → MatchOption o (length c.renditions ≤ rendition) (IsStanding c es rendition seen)
+met-stands r place c es seen rendition None met none = subst (λ (s : Configuration). length s.renditions ≤ rendition) met.settings none
+met-stands r place c es seen rendition (Some s) met there =
     let later : seen ≤ s.count = omega (arith, met.later, there.later) in
-    subst (λ k. IsStanding k rendition seen s) met.settings (record { events = there.events; there = there.there; stands = there.stands; later = later })
+    subst (λ k. IsStanding k es rendition seen s) met.settings (record { there = there.there; stands = there.stands; later = later })
 
 -- ---- requests
 
@@ -119,22 +115,15 @@ abbrev Answers : RoomValue → WantValue → List Event → Asked → Type 0
 Answers h want events a = a ≡ room.asked h want (at_once h.settings (held h.settings events) events want)
 
 pub asks-now : (r : Recording) (es : List Event) (place : ℕ) (c : Configuration) (seen : ℕ) (want : WantValue) (m : StampedValue Reply) → Stands r.room es → IsMet r place c seen
-    → Answers r.room want es (Now m) → (m.room ≡ place) × (number : ℕ) × (m.stamp ≡ stamp.Ask number want) × IsAnswered c want seen number m.value
+    → Answers r.room want es (Now m) → IsAskedBy place c es seen want (told.Now m)
 asks-now r es place c seen want m st met a =
     let h = r.room in
     let n = now_by h want (at_once h.settings (held h.settings es) es want) m a in
     rw (← met.settings) (
       n.room ∙ met.number,
-      h.asks + 1,
-      n.stamp,
-      record { events = es; answer = n.reply; number = ap (λ k. k + 1) (asks-is h es st); later = subst (λ k. seen ≤ k) (count-is h es st) met.later },
+      n.stamp ∙ ap (λ k. stamp.Ask (k + 1) want) (asks-is h es st),
+      record { answer = n.reply; number = refl; later = subst (λ k. seen ≤ k) (count-is h es st) met.later },
     )
-
--- the same of every list of events that the room stands for
-pub tells-now : (h : RoomValue) (es : List Event) (want : WantValue) (m : StampedValue Reply) → Stands h es → Answers h want es (Now m) → IsToldAfter h.settings es want (told.Now m)
-tells-now h es want m st a =
-    let n = now_by h want (at_once h.settings (held h.settings es) es want) m a in
-    (n.stamp ∙ ap (λ k. stamp.Ask (k + 1) want) (asks-is h es st), n.reply)
 
 -- ---- a request that is held: it is the last one that is open
 
@@ -204,10 +193,10 @@ held-entry h2 p c es want t entry k e is = let same : k.entry ≡ entry = cc in 
 
 -- and the caller had seen no more
 pub asks-later : (r : Recording) (es : List Event) (place : ℕ) (c : Configuration) (seen : ℕ) (want : WantValue) (entry : Entry) → Stands r.room es → IsMet r place c seen
-    → HasToWait r.room.settings es want entry → IsHeld c want seen entry
+    → HasToWait r.room.settings es want entry → IsHeld c es want seen entry
 asks-later r es place c seen want entry st met w =
-    subst (λ c. IsHeld c want seen entry) met.settings
-    (record { events = es; waits = w; later = subst (λ n. seen ≤ n) (count-is r.room es st ∙ sym w.seen) met.later })
+    subst (λ c. IsHeld c es want seen entry) met.settings
+    (record { waits = w; later = subst (λ n. seen ≤ n) (count-is r.room es st ∙ sym w.seen) met.later })
 
 -- the value of a request that is held lies beside the others
 pub kept-beside : (r r2 : Recording) (want : WantValue) (p : Ticket) (ps qs : List Ticket) (k : IsChannel r ps) → IsMade r.room r2 k.events want (Held p)
@@ -296,7 +285,7 @@ its_reply b (Some v) h = (v, refl)
 pub record IsHanded (h : RoomValue) (es : List Event) (entry : Entry) : Type 0 where
   pub answer : Settled
   pub got : room.collected h (ticket_at h.channel entry.ticket) ≡ Got (room.collected_at h entry.ticket answer)
-  pub decided : IsDecidedIn h.settings es entry (reply_of answer)
+  pub decided : IsDecided h.settings es entry (reply_of answer)
 
 pub handed : (h : RoomValue) (es : List Event) (entry : Entry) → Stands h es → option_map entry_in (find (is_ready_at entry.ticket) h.slots) ≡ Some entry → IsHanded h es entry
 handed h es entry st ready =
@@ -324,7 +313,7 @@ handed h es entry st ready =
 
 -- what is handed out is its reply
 pub tried : (h : RoomValue) (es : List Event) (place : ℕ) (c : Configuration) (e : Entry) (m : StampedValue Reply) (k : IsHanded h es e) → Got m ≡ Got (room.collected_at h e.ticket k.answer)
-    → h.channel ≡ place → h.settings ≡ c → (m.room ≡ place) × (m.stamp ≡ stamp.Collect e.ticket) × IsDecidedIn c es e m.value
+    → h.channel ≡ place → h.settings ≡ c → (m.room ≡ place) × (m.stamp ≡ stamp.Collect e.ticket) × IsDecided c es e m.value
 tried h es place c e m k is here same =
     let value : m ≡ room.collected_at h e.ticket k.answer = cc in
     rw (value, ← here, ← same) (refl, refl, k.decided)

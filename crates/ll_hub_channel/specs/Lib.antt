@@ -1,6 +1,6 @@
 -- The definitions that the contracts of this crate cite.
 pub mod Channel
-pub mod Ledgers
+pub mod Deeds
 pub mod Section
 pub mod Told
 pub use Rattle.ll_verdict.specs.Events

@@ -1,22 +1,19 @@
 -- The results of one locked section of a channel, and the channel after it.
-use Rattle.std.specs.Prelude.{◌≡◌, ◌≢◌, ◌≤◌, ◌<◌, ◌^◌, ℕ, ◌+◌, Bool, List, [], ◌∷◌, ◌++◌, None, Some, find, is_some, option_map, false, true, ⊤}
+use Rattle.std.specs.Prelude.{◌≡◌, ◌≤◌, ◌<◌, ℕ, ◌+◌, ◌||◌, Bool, List, [], ◌∷◌, ◌++◌, Some, find, is_some, option_map}
 use Rattle.ll_verdict.specs.Waiting.{entry_in, found, is_ready_at}
 use Rattle.ll_directive.specs.Targets.{WantValue}
 use Rattle.ll_settings.specs.Settings.{Configuration}
 use Rattle.ll_item.specs.declared.item.Item.{Item}
-use Rattle.ll_record.specs.Recording.{IsRecorded, Recording, of_channel, record_refusal}
+use Rattle.ll_record.specs.Recording.{IsRecorded, Recording, is_record_full}
 use Rattle.ll_verdict.specs.declared.fault.ClockFault.{ClockFault}
-use Rattle.ll_verdict.specs.declared.fault.ClockFault.TheVariants as reading
 use Rattle.ll_verdict.specs.declared.fault.AskFault.{AskFault}
-use Rattle.ll_verdict.specs.declared.fault.AskFault.TheVariants as unasked
 use Rattle.ll_room.specs.declared.stamped.Stamp.TheVariants as stamp
-use Rattle.ll_verdict.specs.Events.{Event, Ask, Clock, Close, Collect, asks}
-use Rattle.ll_verdict.specs.Verdict.{at_once, held}
+use Rattle.ll_verdict.specs.Events.{Event, Clock, Close, Collect, asks}
+use Rattle.ll_verdict.specs.Full.{is_full}
 use Rattle.ll_verdict.specs.declared.entry.Entry.{Entry}
 use Rattle.ll_verdict.specs.declared.entry.Slot.{Slot}
-use Rattle.ll_rendition.specs.declared.fault.PublishFault.{PublishFault}
-use Rattle.ll_rendition.specs.declared.fault.PublishFault.TheVariants as refused
-use Rattle.ll_hub_channel.specs.Told.{HasToWait, IsAnswered, IsDecided, IsDecidedIn, IsHeld, IsRefused, is_filled}
+use Rattle.ll_verdict.specs.declared.reply.Reply.{Reply}
+use Rattle.ll_hub_channel.specs.Told.{IsAnswered, IsAskRefused, IsDecided, IsHeld, IsReadingRefused, IsRefused}
 use Rattle.ll_hub_channel.specs.declared.channel.AtOnce.{AtOnce}
 use Rattle.ll_hub_channel.specs.declared.channel.AtOnce.TheVariants.{Now, Held}
 use Rattle.ll_hub_channel.specs.declared.channel.Tried.{Tried}
@@ -80,83 +77,48 @@ pub record HasAsked (old new : Recording) : Type 0 where
 
 -- ---- an item
 
-abbrev pub IsPublishFaultBy : ℕ → Configuration → ℕ → Item → HubFault → Type 0
-IsPublishFaultBy place c seen item (Room other (room.Publish fault)) = (other ≡ place) × (fault ≢ refused.Memory → IsRefused c item seen fault)
-IsPublishFaultBy place c seen item fault = ⊥
-
--- the first rule that refuses the item after these events; Memory only if no rule refuses it
-pub record IsRule (r : Recording) (events : List Event) (item : Item) (fault : PublishFault) : Type 0 where
-  pub rule : fault ≢ refused.Memory → record_refusal r events item ≡ Some fault
-  pub memory : fault ≡ refused.Memory → record_refusal r events item ≡ None
-
-abbrev pub IsRuleBy : Recording → List Event → Item → HubFault → Type 0
-IsRuleBy r events item (Room other (room.Publish fault)) = IsRule r events item fault
-IsRuleBy r events item fault = ⊤
+-- why an item isn't published after these events
+abbrev pub IsPublishFaultBy : Recording → ℕ → Configuration → List Event → ℕ → Item → HubFault → Type 0
+IsPublishFaultBy r place c events seen item (Room other (room.Publish fault)) = (other ≡ place) × IsRefused c events (is_record_full r) item seen fault
+IsPublishFaultBy r place c events seen item fault = ⊥
 
 -- ---- a request
 
-abbrev pub IsAskedBy : ℕ → Configuration → ℕ → WantValue → AtOnce → Type 0
-IsAskedBy place c seen want (Now mark) =
-    (mark.room ≡ place) × (number : ℕ) × (mark.stamp ≡ stamp.Ask number want) × IsAnswered c want seen number mark.value
-IsAskedBy place c seen want (Held entry) = IsHeld c want seen entry
+-- the result of a request that is made after these events
+abbrev pub IsAskedBy : ℕ → Configuration → List Event → ℕ → WantValue → AtOnce → Type 0
+IsAskedBy place c events seen want (Now mark) =
+    (mark.room ≡ place) × (mark.stamp ≡ stamp.Ask (asks events + 1) want) × IsAnswered c events want seen (asks events + 1) mark.value
+IsAskedBy place c events seen want (Held entry) = IsHeld c events want seen entry
 
--- the result of a request that is made after these events of its channel
-abbrev pub IsToldAfter : Configuration → List Event → WantValue → AtOnce → Type 0
-IsToldAfter c events want (Now mark) = (mark.stamp ≡ stamp.Ask (asks events + 1) want) × (at_once c (held c events) events want ≡ Some mark.value)
-IsToldAfter c events want (Held entry) = HasToWait c events want entry
+-- whether no request and no reading is taken any more
+abbrev pub is_filled : Recording → Bool
+is_filled r = is_record_full r || is_full r.room.events
 
--- a request is made after a reading, which is one that the clock shows (rule 30)
-pub record IsMadeBy (shows : ℕ → Type 0) (old new : Recording) (want : WantValue) (answer : AtOnce) : Type 0 where
-  pub ms : ℕ
-  pub shown : shows ms
-  pub recorded : (events : List Event) → IsRecorded old events → IsRecorded new (events ++ Clock ms ∷ Ask (of_channel old.room.settings want) ∷ [])
-  pub told : (events : List Event) → IsRecorded old events → IsToldAfter old.room.settings (events ++ Clock ms ∷ []) want answer
-
--- why a reading is refused: the first of these
-abbrev pub IsReadingFault : Recording → ℕ → ClockFault → Type 0
-IsReadingFault r ms reading.ClockRange = 2 ^ 60 < ms
-IsReadingFault r ms reading.RecordFull = (ms ≤ 2 ^ 60) × (is_filled r ≡ true)
-IsReadingFault r ms reading.Memory = (ms ≤ 2 ^ 60) × (is_filled r ≡ false)
-
--- why a request is refused: the first of these
-abbrev pub IsRequestFault : Recording → AskFault → Type 0
-IsRequestFault r unasked.RecordFull = is_filled r ≡ true
-IsRequestFault r unasked.Memory = is_filled r ≡ false
-
--- a reading that the clock shows is refused, and nothing has changed
-pub record IsUnread (shows : ℕ → Type 0) (old new : Recording) (fault : ClockFault) : Type 0 where
-  pub ms : ℕ
-  pub shown : shows ms
-  pub refused : IsReadingFault old ms fault
-  pub unchanged : new ≡ old
-
--- a request is refused after a reading that the clock shows, and the reading is recorded
-pub record IsUnasked (shows : ℕ → Type 0) (old new : Recording) (fault : AskFault) : Type 0 where
-  pub ms : ℕ
-  pub shown : shows ms
+-- a request is refused after a reading, which is recorded
+pub record IsUnasked (old new : Recording) (ms : ℕ) (fault : AskFault) : Type 0 where
   pub recorded : (events : List Event) → IsRecorded old events → IsRecorded new (events ++ Clock ms ∷ [])
-  pub refused : IsRequestFault new fault
+  pub refused : IsAskRefused (is_filled new) fault
 
-abbrev pub IsAskFaultBy : (ℕ → Type 0) → Recording → Recording → ℕ → HubFault → Type 0
-IsAskFaultBy shows old new place (Room other (room.Publish fault)) = ⊥
-IsAskFaultBy shows old new place (Room other (room.Ask fault)) = (other ≡ place) × IsUnasked shows old new fault
-IsAskFaultBy shows old new place (Room other (room.Clock fault)) = (other ≡ place) × IsUnread shows old new fault
-IsAskFaultBy shows old new place Memory = new ≡ old
-IsAskFaultBy shows old new place fault = ⊥
+-- why a request isn't made, and what the channel is then
+abbrev pub IsAskFaultBy : Recording → Recording → ℕ → ℕ → HubFault → Type 0
+IsAskFaultBy old new place ms (Room other (room.Publish fault)) = ⊥
+IsAskFaultBy old new place ms (Room other (room.Ask fault)) = (other ≡ place) × IsUnasked old new ms fault
+IsAskFaultBy old new place ms (Room other (room.Clock fault)) = (other ≡ place) × (new ≡ old) × IsReadingRefused (is_filled old) ms fault
+IsAskFaultBy old new place ms Memory = new ≡ old
+IsAskFaultBy old new place ms fault = ⊥
 
 -- ---- a held request
 
-abbrev pub IsTriedBy : ℕ → Configuration → Entry → Tried → Type 0
-IsTriedBy place c entry (tried.Got mark) = (mark.room ≡ place) × (mark.stamp ≡ stamp.Collect entry.ticket) × IsDecided c entry mark.value
-IsTriedBy place c entry tried.Still = ⊤
-IsTriedBy place c entry tried.Stranger = ⊤
+-- its reply is handed out
+pub record IsCollected (old new : Recording) (c : Configuration) (entry : Entry) (reply : Reply) : Type 0 where
+  pub recorded : (events : List Event) → IsRecorded old events → IsRecorded new (events ++ Collect entry.ticket ∷ [])
+  pub decided : (events : List Event) → IsRecorded old events → IsDecided c events entry reply
 
 -- the result of asking for its reply
-abbrev pub IsCollectedBy : Recording → Recording → ℕ → Configuration → Entry → Tried → Type 0
-IsCollectedBy old new place c entry (tried.Got mark) =
-    (events : List Event) → IsRecorded old events → IsRecorded new (events ++ Collect entry.ticket ∷ []) × IsDecidedIn c events entry mark.value
-IsCollectedBy old new place c entry tried.Still = (new ≡ old) × IsOpenAt old place c entry × (IsReady old entry → ⊥)
-IsCollectedBy old new place c entry tried.Stranger = (new ≡ old) × (IsOpenAt old place c entry → ⊥)
+abbrev pub IsTriedBy : Recording → Recording → ℕ → Configuration → Entry → Tried → Type 0
+IsTriedBy old new place c entry (tried.Got mark) = (mark.room ≡ place) × (mark.stamp ≡ stamp.Collect entry.ticket) × IsCollected old new c entry mark.value
+IsTriedBy old new place c entry tried.Still = (new ≡ old) × IsOpenAt old place c entry × (IsReady old entry → ⊥)
+IsTriedBy old new place c entry tried.Stranger = (new ≡ old) × (IsOpenAt old place c entry → ⊥)
 
 -- it is closed
 pub record IsClosed (old new : Recording) (place : ℕ) (c : Configuration) (entry : Entry) : Type 0 where

@@ -1,21 +1,19 @@
 //! What lies under a channel's lock. Each method is one locked section.
-ghost use Rattle.std.specs.Prelude.{◌≡◌, ◌≢◌, ◌+◌, ◌<◌, ◌≤◌, ◌++◌, ◌∷◌, [], ℕ, List, IfErr, IfOk, MatchBool, MatchOption, None, Some, OnErr, OnOk, filter, length, position, if◌then◌else◌};
+ghost use Rattle.std.specs.Prelude.{◌≡◌, ◌≢◌, ◌+◌, ◌<◌, ◌≤◌, ◌++◌, ◌∷◌, [], List, IfErr, IfOk, MatchBool, MatchOption, None, Some, OnErr, OnOk, filter, length, position, if◌then◌else◌};
 ghost use Rattle.std.specs.Bool.{Decides};
 ghost use Rattle.std.specs.VecDeque.{deque_capacity, deque_len};
 ghost use Rattle.ll_verdict.specs.Waiting as waiting;
 ghost use Rattle.ll_verdict.specs.Waiting.{found};
 ghost use Rattle.ll_hub_channel.specs.Channel.{IsChannel, is_of, parked_for, ticket_at};
 ghost use Rattle.ll_hub_channel.specs.Section as spec;
-ghost use Rattle.ll_hub_channel.specs.Told.{IsAccepted, IsAskRefused, IsHandedOut, IsReadingRefused, IsStanding, IsTotal, IsTotalOf};
+ghost use Rattle.ll_hub_channel.specs.Told.{IsAccepted, IsReadingRefused, IsStanding, IsTotalOf};
 ghost use Rattle.ll_record.specs.Chunk.{IsChunk, IsFaithful, emptied};
-ghost use Rattle.ll_record.specs.Recording.{GoesOn, IsRecorded};
+ghost use Rattle.ll_record.specs.Recording.{GoesOn, IsRecorded, of_channel};
 ghost use Rattle.ll_room.specs.RoomValue.{among, room_value, less, tickets};
 ghost use Rattle.ll_room.specs.declared.stamped.Stamp.TheVariants as stamp;
-ghost use Rattle.ll_verdict.specs.Events.{Event, Clock, Publish, items};
-ghost use Rattle.ll_verdict.specs.Standing.{standing};
+ghost use Rattle.ll_verdict.specs.Events.{Event, Ask, Clock, Publish};
 ghost use Rattle.ll_verdict.specs.State.{state_of};
 
-use crate::clock::Clock;
 use crate::fault::{HubFault, RoomFault};
 use crate::same::is_entry;
 use crate::total::Total;
@@ -106,6 +104,13 @@ impl Channel {
         );
     }
 
+    /// Returns whether this is the channel that the caller knows.
+    pub fn is_at(&self, known: Known<'_>) -> bool
+        ensures { Decides result (spec.IsAt self.now known.entry.place known.entry.settings.now) }
+    {
+        is_known(&self.recorder, known)
+    }
+
     /// Tests whether this is the channel that the caller knows, and has what the caller has seen. If not, it is Stranger or WentBack, in
     /// this order.
     pub fn meet(&self, known: Known<'_>) -> Result<(), HubFault>
@@ -127,9 +132,8 @@ impl Channel {
 
     /// Returns where the rendition at index `rendition` stands; `None` if the channel has no such rendition. It is no event.
     pub fn standing(&self, rendition: usize) -> Option<Standing>
-        ensures some { MatchOption result (length self.now.room.settings.renditions ≤ rendition) (IsStanding self.now.room.settings rendition self.now.room.count) }
-        ensures exact { (events : List Event) → IsRecorded self.now events
-            → MatchOption result (length self.now.room.settings.renditions ≤ rendition) (λ s. s ≡ standing self.now.room.settings (items self.now.room.settings events) rendition) }
+        ensures { (events : List Event) → IsRecorded self.now events
+            → MatchOption result (length self.now.room.settings.renditions ≤ rendition) (IsStanding self.now.room.settings events rendition self.now.room.count) }
     {
         self.recorder.room().standing(rendition)
     }
@@ -138,12 +142,12 @@ impl Channel {
     pub fn publish(&mut self, known: Known<'_>, item: Item) -> Result<Stamped<u64>, HubFault>
         requires { spec.IsMet self.old known.place known.settings.now known.seen }
         ensures room { IfOk result (λ n. (n.room ≡ known.entry.place) × (n.stamp ≡ stamp.Publish item)) }
-        ensures accepted { IfOk result (λ n. IsAccepted known.entry.settings.now item known.entry.seen n.value) }
+        ensures accepted { (events : List Event) → IsRecorded self.old events → IfOk result (λ n. IsAccepted known.entry.settings.now events item known.entry.seen n.value) }
         ensures count { IfOk result (λ n. n.value ≡ self.old.room.count + 1) }
         ensures recorded { (events : List Event) → IsRecorded self.old events → OnOk result (IsRecorded self.new (events ++ Publish item ∷ [])) }
         ensures goes_on { GoesOn self.old self.new }
-        ensures rule { (events : List Event) → IsRecorded self.old events → IfErr result (λ f. spec.IsRuleBy self.old events item f) }
-        ensures refused { IfErr result (λ f. spec.IsPublishFaultBy known.entry.place known.entry.settings.now known.entry.seen item f) }
+        ensures refused { (events : List Event) → IsRecorded self.old events
+            → IfErr result (λ f. spec.IsPublishFaultBy self.old known.entry.place known.entry.settings.now events known.entry.seen item f) }
         ensures counted { OnOk result (spec.HasPublished self.old self.new) }
         ensures unchanged { OnErr result (self.new ≡ self.old) }
     {
@@ -154,27 +158,23 @@ impl Channel {
         Ok(count)
     }
 
-    /// Reads the clock, and then makes the request `want` of the channel, which is the one that the caller knows. Memory for the value that
-    /// stands for the request is reserved first.
-    pub fn ask<C: Clock>(
-        &mut self,
-        known: Known<'_>,
-        clock: &C,
-        want: Want,
-    ) -> Result<AtOnce, HubFault>
+    /// Takes the reading `ms` of the clock, in milliseconds, and then the request `want` of the channel, which is the one that the caller knows.
+    /// Memory for the value that stands for the request is reserved first.
+    pub fn ask(&mut self, known: Known<'_>, ms: u64, want: Want) -> Result<AtOnce, HubFault>
         requires { spec.IsMet self.old known.place known.settings.now known.seen }
-        ensures asked { IfOk result (λ a. spec.IsAskedBy known.entry.place known.entry.settings.now known.entry.seen want a) }
-        ensures made { IfOk result (λ a. spec.IsMadeBy (C.shows clock.now) self.old self.new want a) }
+        ensures asked { (events : List Event) → IsRecorded self.old events
+            → IfOk result (λ a. spec.IsAskedBy known.entry.place known.entry.settings.now (events ++ Clock ms ∷ []) known.entry.seen want a) }
+        ensures recorded { (events : List Event) → IsRecorded self.old events
+            → OnOk result (IsRecorded self.new (events ++ Clock ms ∷ Ask (of_channel known.entry.settings.now want) ∷ [])) }
         ensures goes_on { GoesOn self.old self.new }
-        ensures refused { IfErr result (λ f. IsAskRefused (C.shows clock.now) known.entry.place known.entry.settings.now f) }
-        ensures fault { IfErr result (λ f. spec.IsAskFaultBy (C.shows clock.now) self.old self.new known.entry.place f) }
+        ensures refused { IfErr result (λ f. spec.IsAskFaultBy self.old self.new known.entry.place ms f) }
         ensures counted { OnOk result (spec.HasAsked self.old self.new) }
         ensures uncounted { OnErr result (spec.IsAsCounted self.old self.new) }
     {
         if self.parked.reserve(1).is_err() {
             return Err(HubFault::Memory);
         }
-        match self.recorder.clock(clock.now()) {
+        match self.recorder.clock(ms) {
             Ok(()) => {}
             Err(fault) => return Err(known.refuses(RoomFault::Clock(fault))),
         }
@@ -187,9 +187,8 @@ impl Channel {
 
     /// Hands out the reply to the held request `entry`, if it is there.
     pub fn collect(&mut self, known: Known<'_>, entry: Entry) -> Tried
-        ensures tried { spec.IsTriedBy known.entry.place known.entry.settings.now entry result }
+        ensures tried { spec.IsTriedBy self.old self.new known.entry.place known.entry.settings.now entry result }
         ensures counts { spec.IsAsCounted self.old self.new }
-        ensures collected { spec.IsCollectedBy self.old self.new known.entry.place known.entry.settings.now entry result }
         ensures goes_on { GoesOn self.old self.new }
     {
         if !is_here(&self.recorder, known, entry) {
@@ -232,8 +231,7 @@ impl Channel {
         ensures counts { spec.IsAsCounted self.old self.new }
         ensures told { (events : List Event) → IsRecorded self.old events → OnOk result (IsRecorded self.new (events ++ Clock ms ∷ [])) }
         ensures goes_on { GoesOn self.old self.new }
-        ensures refused { IfErr result (λ f. spec.IsReadingFault self.old ms f) }
-        ensures why { IfErr result (λ f. IsReadingRefused ms f) }
+        ensures refused { IfErr result (λ f. IsReadingRefused (spec.is_filled self.old) ms f) }
         ensures unchanged { OnErr result (self.new ≡ self.old) }
     {
         self.recorder.clock(ms)
@@ -241,7 +239,6 @@ impl Channel {
 
     /// Hands out the record of the channel, and begins another.
     pub fn rotate(&mut self, known: Known<'_>) -> Result<Chunk, HubFault>
-        ensures handed_out { IfOk result (λ k. IsHandedOut known.entry.settings.now k) }
         ensures known { OnOk result (spec.IsAt self.old known.entry.place known.entry.settings.now) }
         ensures chunk { IfOk result (λ k. IsChunk self.old k) }
         ensures faithful { (events : List Event) → IsRecorded self.old events → IfOk result (λ k. IsFaithful self.old events k) }
@@ -266,7 +263,6 @@ impl Channel {
         ensures asks { result.asks ≡ self.room.asks }
         ensures held { result.held ≡ length self.room.slots }
         ensures of { (events : List Event) → IsRecorded self events → IsTotalOf self.room.settings events result }
-        ensures total { IsTotal self.room.channel self.room.settings result }
     {
         let Channel { recorder, parked } = self;
         let room = recorder.room();

@@ -206,7 +206,7 @@ pub(crate) fn reply<L: Ledgers, C: Clock, R: Wait + Abort>(
     match ask(rt, alloc, hub, clock, pass, channel, target)? {
         HubAsked::Now(reply) => Ok(Some(reply.into_inner())),
         HubAsked::Held(claim) => {
-            hub.close(rt, claim);
+            hub.close(rt, &mut hub.past(), claim);
             Ok(None)
         }
     }
@@ -282,7 +282,7 @@ fn told_page(alloc: Global, number: u64, text: &str) -> Result<String, AllocErro
 
 /// Closes a request. Returns whether the hub held it.
 pub(crate) fn close<L: Ledgers, R: Wait>(rt: &R, hub: &Hub<L>, claim: Claim) -> &'static str {
-    if hub.close(rt, claim) {
+    if hub.close(rt, &mut hub.past(), claim) {
         "closed, "
     } else {
         "strange, "
@@ -302,7 +302,8 @@ pub(crate) fn take<L: Ledgers, R: Wait + Abort>(
         return;
     }
     let ms = number(rt, event);
-    hub.tick(rt, &mut Silent, ms).expect(rt, "a reading");
+    hub.tick(rt, &mut Silent, &mut hub.past(), ms)
+        .expect(rt, "a reading");
 }
 
 /// Takes events, one after another.

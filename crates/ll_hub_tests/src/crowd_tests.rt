@@ -25,7 +25,7 @@ fn hold<L: Ledgers, M: Ledgers, R: Wait + Abort>(
     match ask(rt, alloc, hub, &Stopped, pass, 0, FIRST)? {
         HubAsked::Now(_) => Ok(false),
         HubAsked::Held(claim) => {
-            other.close(rt, claim);
+            other.close(rt, &mut other.past(), claim);
             Ok(true)
         }
     }
@@ -43,7 +43,7 @@ fn hold_one<L: Ledgers, M: Ledgers, R: Wait + Abort>(
 ) {
     let mut is_held = hold(rt, alloc, hub, pass, other);
     if is_full(&is_held) {
-        hub.rotate(rt, 0).expect(rt, "a record");
+        hub.rotate(rt, &mut hub.past(), 0).expect(rt, "a record");
         counts.0 = counts.0.saturating_add(1);
         is_held = hold(rt, alloc, hub, pass, other);
     }
@@ -70,7 +70,7 @@ fn one_more<L: Ledgers, R: Wait + Abort>(
     hub: &Hub<L>,
     pass: &mut Pass<L>,
 ) -> &'static str {
-    hub.rotate(rt, 0).expect(rt, "a record");
+    hub.rotate(rt, &mut hub.past(), 0).expect(rt, "a record");
     match reply(rt, alloc, hub, &Stopped, pass, 0, FIRST) {
         Ok(Some(Reply::Busy)) => "Busy",
         _ => "another reply",

@@ -261,7 +261,8 @@ fn take_row<L: Ledgers, R: Wait + Abort>(
 
 /// Hands out the record of a `channel`, and returns it.
 fn chunk<L: Ledgers, R: Wait + Abort>(rt: &R, hub: &Hub<L>, channel: usize) -> Chunk {
-    hub.rotate(rt, channel).expect(rt, "a chunk")
+    hub.rotate(rt, &mut hub.past(), channel)
+        .expect(rt, "a chunk")
 }
 
 /// Returns the lines of the items in a `record`.

@@ -61,7 +61,7 @@ fn collect_twice<L: Ledgers, R: Wait + Abort>(
         push(rt, &mut text, ", ");
         take_each(rt, alloc, &hub, &mut pass, row.column(0));
         if let Some(claim) = try_collect(rt, alloc, &hub, &mut pass, claim, &mut text) {
-            hub.close(rt, claim);
+            hub.close(rt, &mut hub.past(), claim);
         }
     }
     push(rt, &mut text, ", ");
@@ -150,7 +150,7 @@ fn request<L: Ledgers, M: Ledgers, C: Clock, R: Wait + Abort>(
         .ask(stage.rt, clock, &mut bell, pass, channel, want)
     {
         Ok(HubAsked::Held(claim)) => {
-            stage.other.close(stage.rt, claim);
+            stage.other.close(stage.rt, &mut stage.other.past(), claim);
         }
         Ok(HubAsked::Now(_)) => {}
         Err(_) => {}
@@ -190,7 +190,9 @@ fn happen<L: Ledgers, M: Ledgers, R: Wait + Abort>(
         "finish" => publish(stage, pass, channel, "finish hi"),
         _ => {
             let mut bell = stage.bell;
-            let _ = stage.hub.tick(stage.rt, &mut bell, number);
+            let _ = stage
+                .hub
+                .tick(stage.rt, &mut bell, &mut stage.hub.past(), number);
         }
     }
 }
@@ -321,7 +323,7 @@ fn collect<L: Ledgers, R: Wait + Abort>(
     match shared.hub.collect(shared.rt, pass, claim) {
         Ok(Waited::Reply(_)) => add_one(&shared.later),
         Ok(Waited::Still(claim)) => {
-            shared.hub.close(shared.rt, claim);
+            shared.hub.close(shared.rt, &mut shared.hub.past(), claim);
         }
         Err(_) => {}
     }
@@ -343,7 +345,7 @@ fn collect_ready<L: Ledgers, R: Wait + Abort>(
         if tickets.contains(&claim.ticket()) {
             collect(shared, pass, claim);
         } else {
-            shared.hub.close(shared.rt, claim);
+            shared.hub.close(shared.rt, &mut shared.hub.past(), claim);
         }
     }
     left.destroy_empty();

@@ -46,7 +46,8 @@ fn entries<R: Wait>(rt: &R, alloc: Global, sink: &Kept<'_, R>) -> u64 {
 
 /// Hands out the record of a hub's first channel to a sink.
 fn hand_out<L: Ledgers, R: Wait + Abort>(rt: &R, hub: &Hub<L>, mut sink: &Kept<'_, R>) {
-    hub.rotate_to(rt, 0, &mut sink).expect(rt, "a chunk");
+    hub.rotate_to(rt, &mut hub.past(), 0, &mut sink)
+        .expect(rt, "a chunk");
 }
 
 impl<R: Wait> Sink for &Kept<'_, R> {

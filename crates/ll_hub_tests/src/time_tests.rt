@@ -117,7 +117,7 @@ fn looked<L: Ledgers, R: Wait + time::Clock>(
             _ => "another reply ",
         },
         Ok(Waited::Still(claim)) => {
-            hub.close(rt, claim);
+            hub.close(rt, &mut hub.past(), claim);
             "held "
         }
         Err(_) => "a fault ",
@@ -140,7 +140,7 @@ fn partly<L: Ledgers, R: Wait + Abort + time::Clock>(
     let second = held(rt, alloc, &hub, &Stopped, &mut pass, 1, FIRST);
     let from = number(rt, row.column(0)) as usize;
     let ms = number(rt, row.column(1));
-    hub.tick_from(rt, &mut Silent, from, ms)
+    hub.tick_from(rt, &mut Silent, &mut hub.past(), from, ms)
         .expect(rt, "a reading");
     let mut text = String::new(alloc);
     push(rt, &mut text, looked(rt, &hub, &mut pass, first));

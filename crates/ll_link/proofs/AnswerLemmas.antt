@@ -1,8 +1,15 @@
 -- Lines of a publisher that are refused before the room of a channel is asked, and the answers to the others.
-use Rattle.std.proofs.Common.{◌≡◌, ◌≢◌, ℕ, inr, List, Option, Some, None, Result, Ok, Err, true, length, nat_le, arith, refl, ap, sym, subst, ◌∙◌}
+use Rattle.std.proofs.Common.{◌≡◌, ◌≢◌, ◌⊎◌, ℕ, inl, inr, List, Option, Some, None, Result, Ok, Err, true, length, nat_le, arith, refl, ap, sym, subst, ◌∙◌}
 use Rattle.std.proofs.lemmas.Option.{same_Some}
 use Rattle.std.specs.Prelude.{slice_get}
-use Rattle.ll_hub.specs.Calls.{IsItemRefused, IsPlace, IsPublishFault}
+use mathlib.Core.List.{IsPrefix}
+use Rattle.ll_history.proofs.HistoryLemmas.{done-earlier}
+use Rattle.ll_history.proofs.PrefixLemmas.{prefix-self, prefix-trans}
+use Rattle.ll_history.specs.History.{IsShown}
+use Rattle.ll_history.specs.declared.deed.Deed.{Deed}
+use Rattle.ll_history.specs.declared.deed.Deed.TheVariants as deed
+use Rattle.ll_history.specs.declared.deed.Logged.{Logged}
+use Rattle.ll_hub.specs.Calls.{HasSeen, IsItemRefused, IsPlace, IsPublishFault}
 use Rattle.ll_settings.proofs.ChannelLemmas.{named-within}
 use Rattle.ll_item.specs.declared.item.Item.{Item}
 use Rattle.ll_item.specs.declared.item.ItemFault.{ItemFault}
@@ -13,15 +20,15 @@ use Rattle.ll_rendition.specs.declared.fault.PublishFault.{PublishFault}
 use Rattle.ll_settings.specs.Channels.{channel_of_name}
 use Rattle.ll_item.specs.Items.{item_in, named}
 use Rattle.ll_settings.specs.Settings.{Configuration}
-use Rattle.ll_hub_channel.specs.Told.{IsRefused, IsStanding}
+use Rattle.ll_ledger.specs.Sections.{HasRefused, HasStanding}
 use Rattle.ll_hub_channel.specs.declared.fault.HubFault.{HubFault}
 use Rattle.ll_hub_channel.specs.declared.fault.HubFault.TheVariants as hub
 use Rattle.ll_hub_channel.specs.declared.fault.RoomFault.TheVariants as room
 use Rattle.ll_link.specs.declared.fault.LinkFault.TheVariants.{Hub}
 use Rattle.ll_hub.specs.Passes.{PassValue}
 use Rattle.ll_room.specs.StampedValue.{StampedValue}
-use Rattle.ll_link.specs.Heard.{heard_at, heard_in, unstamped}
-use Rattle.ll_link.specs.Answers.{IsAnswerIn, IsPlaceIn, IsReason, IsRuledOut, IsRuledOutIn, refused_before, refused_by, refused_in, refused_item, refused_name, refused_place}
+use Rattle.ll_link.specs.Heard.{IsHeardAt, heard_at, heard_in, unstamped}
+use Rattle.ll_link.specs.Answers.{IsAnswerAt, IsAnswerIn, IsItemOf, IsPlaceIn, IsReason, IsRuledOut, IsRuledOutIn, refused_before, refused_by, refused_in, refused_item, refused_name, refused_place}
 use Rattle.ll_link.specs.Publishing.{IsReplyTo}
 use Rattle.ll_item.specs.Media.{media_limit}
 use Rattle.ll_publish.specs.Line as says
@@ -57,19 +64,17 @@ named-at channels name place c e =
     ap (slice_get channels) same ∙ w.2
 
 -- an item that the hub refuses is refused by a rule of its channel, unless out of memory
-module _ (c : Configuration) (place : ℕ) (text media : List ℕ) (channels : List Configuration) (found : Item) (seen : List ℕ) where
+module _ (c : Configuration) (place : ℕ) (text media : List ℕ) (channels : List Configuration) (found : Item) (before after : PassValue) where
   module _ (known : slice_get channels place ≡ Some c) (read : item_in c text media ≡ Ok found) where
-    ruled-by : (reason : Refusal) (fault : PublishFault) → refusal.Rule fault ≡ reason → IsItemRefused channels place found seen fault → reason ≢ out_of_memory
-        → IsRuledOut c place seen text media reason
-    ruled-by reason fault is refused other = record {
+    ruled-by : (reason : Refusal) (fault : PublishFault) → refusal.Rule fault ≡ reason → IsItemRefused channels place found before after fault
+        → IsRuledOut c place before after.history text media reason
+    ruled-by reason fault is refused = record {
       item = found;
       read = read;
       seen = refused.seen;
       pass = refused.known.pass;
       fault = fault;
-      rule =
-          subst (λ s. IsRefused s found refused.seen fault) (same_Some refused.settings c (sym refused.known.channel ∙ known))
-          (refused.refused (λ memory. other (sym is ∙ ap refusal.Rule memory)));
+      rule = subst (λ s. HasRefused before.history after.history place s refused.seen found fault) (same_Some refused.settings c (sym refused.known.channel ∙ known)) refused.refused;
       told = sym is;
     }
 
@@ -77,10 +82,10 @@ module _ (c : Configuration) (place : ℕ) (text media : List ℕ) (channels : L
     never : {A : Type 0} (reason : Refusal) → Ok reason ≡ Err Hub → A
     never reason e = absurd (cc)
 
-    pub answer-refused : (fault : HubFault) (reason : Refusal) → Ok reason ≡ refused_by fault → IsPublishFault channels place found seen fault
-        → IsReason (refused_item (item_in c text media)) (IsRuledOut c place seen text media) reason
+    pub answer-refused : (fault : HubFault) (reason : Refusal) → Ok reason ≡ refused_by fault → IsPublishFault channels place found before after fault
+        → IsReason (refused_item (item_in c text media)) (IsRuledOut c place before after.history text media) reason
     answer-refused (hub.Room other (room.Publish fault)) reason e p not =
-        inr (ruled-by reason fault (let same : Ok reason ≡ Ok (refusal.Rule fault) = e in cc) p.1 not)
+        inr (ruled-by reason fault (let same : Ok reason ≡ Ok (refusal.Rule fault) = e in cc) p.1)
     answer-refused (hub.Room other (room.Ask fault)) reason e p not = never reason e
     answer-refused (hub.Room other (room.Clock fault)) reason e p not = never reason e
     answer-refused hub.UnknownChannel reason e p not = never reason e
@@ -89,15 +94,83 @@ module _ (c : Configuration) (place : ℕ) (text media : List ℕ) (channels : L
     answer-refused hub.Short reason e p not = never reason e
     answer-refused hub.Memory reason e p not = never reason e
 
--- a refusal changes nothing of a pass
-pub heard-refused : (found : Option (ℕ × Configuration)) (reason : Refusal) (pass : PassValue) → pass ≡ heard_in found (Err reason) pass
-heard-refused None reason pass = refl
-heard-refused (Some f) reason pass = refl
+-- ---- what a pass has seen
 
--- if the first answer is a refusal, the pass is as it was before it
-pub heard-nothing : (place : ℕ) (first : Result (StampedValue ℕ) Refusal) (reason : Refusal) (pass before : PassValue) → first ≡ Err reason
-    → pass ≡ heard_at place (unstamped first) before → pass ≡ before
-heard-nothing place first reason pass before is e = e ∙ ap (λ r. heard_at place (unstamped r) before) is
+-- a refusal changes nothing of a pass but what it has seen
+pub heard-refused : (found : Option (ℕ × Configuration)) (reason : Refusal) (before after : PassValue) → HasSeen before after → after ≡ heard_in found (Err reason) after.history before
+heard-refused None reason before after seen = seen.same
+heard-refused (Some f) reason before after seen = seen.same
+
+pub heard-unseen : (found : Option (ℕ × Configuration)) (reason : Refusal) (pass : PassValue) → pass ≡ heard_in found (Err reason) pass.history pass
+heard-unseen None reason pass = refl
+heard-unseen (Some f) reason pass = refl
+
+pub seen-nothing : (pass : PassValue) → HasSeen pass pass
+seen-nothing pass = record { same = refl; grows = prefix-self pass.history }
+
+pub seen-then : (before mid after : PassValue) → HasSeen before mid → HasSeen mid after → HasSeen before after
+seen-then before mid after p q = record {
+  same = q.same ∙ ap (λ (v : PassValue). record v { history = after.history }) p.same;
+  grows = prefix-trans before.history mid.history after.history p.grows q.grows;
+}
+
+-- if the first answer is a refusal, the pass has only seen more since
+pub heard-nothing : (place : ℕ) (first : Result (StampedValue ℕ) Refusal) (reason : Refusal) (before after : PassValue) → first ≡ Err reason → IsHeardAt place first before after
+    → HasSeen before after
+heard-nothing place first reason before after is heard =
+    record { same = heard.passed ∙ ap (λ r. heard_at place (unstamped r) after.history before) is; grows = heard.grows }
+
+-- an answer to one who has seen more, before, is one to who had seen less
+pub heard-earlier : (place : ℕ) (answer : Result (StampedValue ℕ) Refusal) (early before after : PassValue) → HasSeen early before → IsHeardAt place answer before after
+    → IsHeardAt place answer early after
+heard-earlier place (Ok mark) early before after p h = record {
+  passed = h.passed ∙ ap (λ (v : PassValue). heard_at place (unstamped (Ok mark)) after.history v) p.same;
+  grows = prefix-trans early.history before.history after.history p.grows h.grows;
+}
+heard-earlier place (Err reason) early before after p h = record {
+  passed = h.passed ∙ ap (λ (v : PassValue). heard_at place (unstamped (Err reason)) after.history v) p.same;
+  grows = prefix-trans early.history before.history after.history p.grows h.grows;
+}
+
+seen-is : (early before : PassValue) → HasSeen early before → before.seen ≡ early.seen
+seen-is early before p = ap (λ (v : PassValue). v.seen) p.same
+
+shown-earlier : (early before after : List Logged) (place : ℕ) (R : List Deed → Type 0) → IsPrefix early before → IsShown before after place R → IsShown early after place R
+shown-earlier early before after place R p s = record { right = s.right; grows = prefix-trans early before after p s.grows }
+
+item-earlier : (c : Configuration) (place : ℕ) (early before : PassValue) (history : List Logged) (text media : List ℕ) (mark : StampedValue ℕ) → HasSeen early before
+    → IsItemOf c place before history text media mark → IsItemOf c place early history text media mark
+item-earlier c place early before history text media mark p i = record {
+  item = i.item;
+  read = i.read;
+  room = i.room;
+  stamp = i.stamp;
+  seen = i.seen;
+  pass = ap (λ list. slice_get list place) (sym (seen-is early before p)) ∙ i.pass;
+  accepted = done-earlier early.history before.history history place (deed.Publish i.item) _ p.grows i.accepted;
+}
+
+ruled-earlier : (c : Configuration) (place : ℕ) (early before : PassValue) (history : List Logged) (text media : List ℕ) (reason : Refusal) → HasSeen early before
+    → IsRuledOut c place before history text media reason → IsRuledOut c place early history text media reason
+ruled-earlier c place early before history text media reason p r = record {
+  item = r.item;
+  read = r.read;
+  seen = r.seen;
+  pass = ap (λ list. slice_get list place) (sym (seen-is early before p)) ∙ r.pass;
+  fault = r.fault;
+  rule = shown-earlier early.history before.history history place _ p.grows r.rule;
+  told = r.told;
+}
+
+pub answer-earlier : (c : Configuration) (place : ℕ) (early before : PassValue) (history : List Logged) (text media : List ℕ) (answer : Result (StampedValue ℕ) Refusal)
+    → HasSeen early before → IsAnswerAt c place before history text media answer → IsAnswerAt c place early history text media answer
+answer-earlier c place early before history text media (Ok mark) p told = item-earlier c place early before history text media mark p told
+answer-earlier c place early before history text media (Err reason) p told = λ other. by (told other)
+  where
+    by : (refused_item (item_in c text media) ≡ Some reason) ⊎ IsRuledOut c place before history text media reason
+        → (refused_item (item_in c text media) ≡ Some reason) ⊎ IsRuledOut c place early history text media reason
+    by (inl e) = inl e
+    by (inr r) = inr (ruled-earlier c place early before history text media reason p r)
 
 -- ---- the allowed answers to a line
 
@@ -106,37 +179,40 @@ within : (channels : List Configuration) (name text media : List ℕ) → nat_le
 within channels name text media small = rw small refl
 
 -- an item with no more bytes than an item may have
-pub item_reply : (channels : List Configuration) (pass : PassValue) (name text media : List ℕ) (answer : Result (StampedValue ℕ) Refusal)
+pub item_reply : (channels : List Configuration) (pass : PassValue) (history : List Logged) (name text media : List ℕ) (answer : Result (StampedValue ℕ) Refusal)
     → nat_le (length media) media_limit ≡ true
     → ((reason : Refusal) → refused_in (channel_of_name channels 0 name) text media ≡ Some reason → answer ≡ Err reason)
-    → IsAnswerIn channels pass.seen name text media answer → IsReplyTo channels pass (says.Item name text media) (unstamped answer)
-item_reply channels pass name text media (Ok mark) small refused told = record {
+    → IsAnswerIn channels pass history name text media answer → IsPrefix pass.history history → IsReplyTo channels pass history (says.Item name text media) (unstamped answer)
+item_reply channels pass history name text media (Ok mark) small refused told grows = record {
   refused = λ reason e. let none : Ok mark ≡ Err reason = refused reason (sym (within channels name text media small) ∙ e) in absurd (cc);
   told = (mark, refl, told);
   ruled = tt;
+  grows = grows;
 }
-item_reply channels pass name text media (Err reason) small refused told = record {
+item_reply channels pass history name text media (Err reason) small refused told grows = record {
   refused = λ other e. ap unstamped (refused other (sym (within channels name text media small) ∙ e));
   told = tt;
-  ruled = subst (λ before. IsReason before (IsRuledOutIn channels pass.seen name text media) reason) (sym (within channels name text media small)) told;
+  ruled = subst (λ before. IsReason before (IsRuledOutIn channels pass history name text media) reason) (sym (within channels name text media small)) told;
+  grows = grows;
 }
 
 -- a place
-place_told : (channels : List Configuration) (pass : PassValue) (name rendition : List ℕ) (s : Standing) → IsPlaceIn channels pass.seen name rendition s
-    → IsReplyTo channels pass (says.At name rendition) (Ok (success.Standing s))
-place_told channels pass name rendition s told = record {
+place_told : (channels : List Configuration) (pass : PassValue) (history : List Logged) (name rendition : List ℕ) (s : Standing)
+    → IsPlaceIn channels pass history name rendition s → IsPrefix pass.history history → IsReplyTo channels pass history (says.At name rendition) (Ok (success.Standing s))
+place_told channels pass history name rendition s told grows = record {
   refused = λ reason e. let none : None ≡ Some reason = sym (ap refused_name told.named) ∙ sym (ap (λ found. refused_place found rendition) told.known) ∙ e in absurd (cc);
   told = told;
   ruled = tt;
+  grows = grows;
 }
 
 -- the place that the hub gives for the channel that the name finds
-pub place_found : (channels : List Configuration) (pass : PassValue) (name rendition after : List ℕ) (place : ℕ) (c : Configuration) (index : ℕ) (s : Standing)
-    → channel_of_name channels 0 name ≡ Some (place, c) → named c rendition ≡ Ok index → IsPlace channels place index pass.seen after s
-    → IsReplyTo channels pass (says.At name rendition) (Ok (success.Standing s))
-place_found channels pass name rendition after place c index s known is p =
+pub place_found : (channels : List Configuration) (pass after : PassValue) (name rendition : List ℕ) (place : ℕ) (c : Configuration) (index : ℕ) (s : Standing)
+    → channel_of_name channels 0 name ≡ Some (place, c) → named c rendition ≡ Ok index → IsPlace channels place index pass after s
+    → IsReplyTo channels pass after.history (says.At name rendition) (Ok (success.Standing s))
+place_found channels pass after name rendition place c index s known is p =
     let same = same_Some p.settings c (sym p.known.channel ∙ named-at channels name place c known) in
-    place_told channels pass name rendition s
+    place_told channels pass after.history name rendition s
     (record {
       place = place;
       settings = c;
@@ -145,14 +221,16 @@ place_found channels pass name rendition after place c index s known is p =
       named = is;
       seen = p.seen;
       pass = p.known.pass;
-      stands = subst (λ k. IsStanding k index p.seen s) same p.stands;
+      stands = subst (λ k. HasStanding pass.history after.history place k p.seen index s) same p.stands;
     })
+    p.stands.grows
 
 -- a line that is refused before any room is asked
 pub place_refused : (channels : List Configuration) (pass : PassValue) (name rendition : List ℕ) (reason : Refusal)
-    → refused_place (channel_of_name channels 0 name) rendition ≡ Some reason → IsReplyTo channels pass (says.At name rendition) (Err reason)
+    → refused_place (channel_of_name channels 0 name) rendition ≡ Some reason → IsReplyTo channels pass pass.history (says.At name rendition) (Err reason)
 place_refused channels pass name rendition reason before = record {
   refused = λ other e. ap Err (same_Some reason other (sym before ∙ e));
   told = tt;
   ruled = before;
+  grows = prefix-self pass.history;
 }

@@ -1,4 +1,5 @@
 pub mod AnswerLemmas
+pub mod AskLemmas
 pub mod FaultLemmas
 pub mod KeptLemmas
 pub mod ReadLemmas

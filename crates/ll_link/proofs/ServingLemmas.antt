@@ -8,6 +8,9 @@ use Rattle.std.specs.Io.KnownBytes.{Appends}
 use Rattle.ll_device.proofs.WriteLemmas.{AppendsPrefix-after}
 use Rattle.ll_device.specs.Inward.{Inward, looked_at}
 use Rattle.ll_device.specs.Written.{AppendsPrefix}
+use Rattle.ll_history.proofs.PrefixLemmas.{prefix-self}
+use Rattle.ll_history.specs.declared.deed.Logged.{Logged}
+use Rattle.ll_hub.specs.Calls.{HasSeen}
 use Rattle.ll_hub.specs.Passes.{PassValue}
 use Rattle.ll_publish.proofs.StreamLaws.{none_is_left, whole_streams}
 use Rattle.ll_publish.specs.Line.{Line}
@@ -21,31 +24,35 @@ use Rattle.ll_link.specs.Doors.{Origin}
 use Rattle.ll_link.specs.Publishing.{AreRight, Caller, Exchange, IsCutOff, IsServed, IsTold, after_all, after_exchange, caller, caller_after, lines_of, newcomer, replies_of}
 use Rattle.ll_link.specs.Serving.{IsBroken, IsDrained, IsServing}
 
+-- a pass has seen what it has seen
+seen-same : (before after : PassValue) → after ≡ before → HasSeen before after
+seen-same before after is = subst (HasSeen before) (sym is) (record { same = refl; grows = prefix-self before.history })
+
 -- one call more
 past-more : (calls : List Call) (call : Call) → past (calls ++ call ∷ []) ≡ called (past calls) call
 past-more calls call = fold-append called before_any calls (call ∷ [])
 
 -- one exchange more
-abbrev exchange : Line → Result Success Refusal → Exchange
-exchange line reply = record { line = line; reply = reply }
+abbrev exchange : Line → Result Success Refusal → List Logged → Exchange
+exchange line reply history = record { line = line; reply = reply; history = history }
 
-replies-more : (es : List Exchange) (line : Line) (reply : Result Success Refusal) → replies_of (es ++ exchange line reply ∷ []) ≡ replies_of es ++ reply_line reply
-replies-more es line reply =
-    flat_map-append (λ (e : Exchange). reply_line e.reply) es (exchange line reply ∷ []) ∙ ap (λ text. replies_of es ++ text) (append-nil (reply_line reply))
+replies-more : (es : List Exchange) (line : Line) (reply : Result Success Refusal) (history : List Logged) → replies_of (es ++ exchange line reply history ∷ []) ≡ replies_of es ++ reply_line reply
+replies-more es line reply history =
+    flat_map-append (λ (e : Exchange). reply_line e.reply) es (exchange line reply history ∷ []) ∙ ap (λ text. replies_of es ++ text) (append-nil (reply_line reply))
 
-lines-more : (es : List Exchange) (line : Line) (reply : Result Success Refusal) → lines_of (es ++ exchange line reply ∷ []) ≡ lines_of es ++ line ∷ []
-lines-more es line reply = map-append (λ (e : Exchange). e.line) es (exchange line reply ∷ [])
+lines-more : (es : List Exchange) (line : Line) (reply : Result Success Refusal) (history : List Logged) → lines_of (es ++ exchange line reply history ∷ []) ≡ lines_of es ++ line ∷ []
+lines-more es line reply history = map-append (λ (e : Exchange). e.line) es (exchange line reply history ∷ [])
 
 -- the connection remembers one exchange more
-remembered-more : (o : Origin) (start : Caller) (es : List Exchange) (line : Line) (reply : Result Success Refusal)
-    → after_all o start (es ++ exchange line reply ∷ []) ≡ caller_after o line reply (after_all o start es)
-remembered-more o start es line reply = fold-append (after_exchange o) start es (exchange line reply ∷ [])
+remembered-more : (o : Origin) (start : Caller) (es : List Exchange) (line : Line) (reply : Result Success Refusal) (history : List Logged)
+    → after_all o start (es ++ exchange line reply history ∷ []) ≡ caller_after o line reply history (after_all o start es)
+remembered-more o start es line reply history = fold-append (after_exchange o) start es (exchange line reply history ∷ [])
 
 -- a line with an allowed answer, after the others
-right-more : (o : Origin) (start : Caller) (es : List Exchange) (line : Line) (reply : Result Success Refusal)
-    → AreRight o start es → IsTold o (after_all o start es) line reply → AreRight o start (es ++ exchange line reply ∷ [])
-right-more o start [] line reply all one = (one, tt)
-right-more o start (e ∷ more) line reply all one = (all.0, right-more o (after_exchange o start e) more line reply all.1 one)
+right-more : (o : Origin) (start : Caller) (es : List Exchange) (line : Line) (reply : Result Success Refusal) (history : List Logged)
+    → AreRight o start es → IsTold o (after_all o start es) history line reply → AreRight o start (es ++ exchange line reply history ∷ [])
+right-more o start [] line reply history all one = (one, tt)
+right-more o start (e ∷ more) line reply history all one = (all.0, right-more o (after_exchange o start e) more line reply history all.1 one)
 
 -- nothing came yet
 pub serving-none : (o : Origin) (feed : FeedValue) (start : Caller) (base : Option (List ℕ)) → feed ≡ fresh
@@ -63,28 +70,28 @@ serving-none o feed start base e = record {
 
 -- a line is answered
 pub serving-more : (o : Origin) (taken : List ℕ) (feed after : FeedValue) (start caller now : Caller) (base mid written : Option (List ℕ)) (line : Line)
-    (reply : Result Success Refusal)
-    → IsServing o taken feed start caller base mid → (front feed).0 ≡ Some line → after ≡ (front feed).1 → IsTold o caller line reply
-    → now ≡ caller_after o line reply caller → Appends mid written (reply_line reply) → IsServing o taken after start now base written
-serving-more o taken feed after start caller now base mid written line reply s told rest right remembered sent =
+    (reply : Result Success Refusal) (history : List Logged)
+    → IsServing o taken feed start caller base mid → (front feed).0 ≡ Some line → after ≡ (front feed).1 → IsTold o caller history line reply
+    → now ≡ caller_after o line reply history caller → Appends mid written (reply_line reply) → IsServing o taken after start now base written
+serving-more o taken feed after start caller now base mid written line reply history s told rest right remembered sent =
     let more = past-more s.calls Next in
     record {
       calls = s.calls ++ Next ∷ [];
       bytes = ap (λ p. p.taken) more ∙ s.bytes;
       kept = ap (λ p. p.feed) more ∙ ap (λ f. (front f).1) s.kept ∙ sym rest;
-      exchanges = s.exchanges ++ exchange line reply ∷ [];
+      exchanges = s.exchanges ++ exchange line reply history ∷ [];
       given =
           ap (λ p. p.given) more ∙ ap (and_line (past s.calls).given) (ap (λ f. (front f).0) s.kept ∙ told) ∙ ap (λ ls. ls ++ line ∷ []) s.given
-          ∙ sym (lines-more s.exchanges line reply);
-      right = right-more o start s.exchanges line reply s.right (subst (λ c. IsTold o c line reply) s.remembered right);
-      remembered = remembered ∙ ap (caller_after o line reply) s.remembered ∙ sym (remembered-more o start s.exchanges line reply);
-      sent = subst (Appends base written) (sym (replies-more s.exchanges line reply)) (Appends-trans base mid written (replies_of s.exchanges) (reply_line reply) s.sent sent);
+          ∙ sym (lines-more s.exchanges line reply history);
+      right = right-more o start s.exchanges line reply history s.right (subst (λ c. IsTold o c history line reply) s.remembered right);
+      remembered = remembered ∙ ap (caller_after o line reply history) s.remembered ∙ sym (remembered-more o start s.exchanges line reply history);
+      sent = subst (Appends base written) (sym (replies-more s.exchanges line reply history)) (Appends-trans base mid written (replies_of s.exchanges) (reply_line reply) s.sent sent);
     }
 
 -- a line without an answer, because the hub ended the connection
 pub broken-untold : (o : Origin) (taken : List ℕ) (feed : FeedValue) (start caller : Caller) (now : PassValue) (base written : Option (List ℕ)) (line : Line)
-    → IsServing o taken feed start caller base written → (front feed).0 ≡ Some line → now ≡ caller.pass → IsBroken o taken start now base written
-broken-untold o taken feed start caller now base written line s told same =
+    → IsServing o taken feed start caller base written → (front feed).0 ≡ Some line → HasSeen caller.pass now → IsBroken o taken start now base written
+broken-untold o taken feed start caller now base written line s told seen =
     let more = past-more s.calls Next in
     record {
       calls = s.calls ++ Next ∷ [];
@@ -93,32 +100,32 @@ broken-untold o taken feed start caller now base written line s told same =
       later = line ∷ [];
       given = ap (λ p. p.given) more ∙ ap (and_line (past s.calls).given) (ap (λ f. (front f).0) s.kept ∙ told) ∙ ap (λ ls. ls ++ line ∷ []) s.given;
       right = s.right;
-      passed = same ∙ ap (λ (c : Caller). c.pass) s.remembered;
+      passed = subst (λ (c : Caller). HasSeen c.pass now) s.remembered seen;
       sent = (replies_of s.exchanges, [], sym (append-nil (replies_of s.exchanges)), s.sent);
     }
 
 -- a line of whose answer a prefix was sent
 pub broken-told : (o : Origin) (taken : List ℕ) (feed : FeedValue) (start caller : Caller) (now : PassValue) (base mid written : Option (List ℕ)) (line : Line)
-    (reply : Result Success Refusal)
-    → IsServing o taken feed start caller base mid → (front feed).0 ≡ Some line → IsTold o caller line reply → now ≡ (caller_after o line reply caller).pass
+    (reply : Result Success Refusal) (history : List Logged)
+    → IsServing o taken feed start caller base mid → (front feed).0 ≡ Some line → IsTold o caller history line reply → now ≡ (caller_after o line reply history caller).pass
     → AppendsPrefix mid written (reply_line reply) → IsBroken o taken start now base written
-broken-told o taken feed start caller now base mid written line reply s told right passed sent =
+broken-told o taken feed start caller now base mid written line reply history s told right passed sent =
     let more = past-more s.calls Next in
     record {
       calls = s.calls ++ Next ∷ [];
       bytes = ap (λ p. p.taken) more ∙ s.bytes;
-      exchanges = s.exchanges ++ exchange line reply ∷ [];
+      exchanges = s.exchanges ++ exchange line reply history ∷ [];
       later = [];
       given =
           ap (λ p. p.given) more ∙ ap (and_line (past s.calls).given) (ap (λ f. (front f).0) s.kept ∙ told) ∙ ap (λ ls. ls ++ line ∷ []) s.given
-          ∙ sym (lines-more s.exchanges line reply) ∙ sym (append-nil (lines_of (s.exchanges ++ exchange line reply ∷ [])));
-      right = right-more o start s.exchanges line reply s.right (subst (λ c. IsTold o c line reply) s.remembered right);
-      passed =
-          passed ∙ ap (λ (c : Caller). (caller_after o line reply c).pass) s.remembered
-          ∙ ap (λ (c : Caller). c.pass) (sym (remembered-more o start s.exchanges line reply));
+          ∙ sym (lines-more s.exchanges line reply history) ∙ sym (append-nil (lines_of (s.exchanges ++ exchange line reply history ∷ [])));
+      right = right-more o start s.exchanges line reply history s.right (subst (λ c. IsTold o c history line reply) s.remembered right);
+      passed = seen-same _ _ (
+          passed ∙ ap (λ (c : Caller). (caller_after o line reply history c).pass) s.remembered
+          ∙ ap (λ (c : Caller). c.pass) (sym (remembered-more o start s.exchanges line reply history)));
       sent =
-          AppendsPrefix-after base mid written (replies_of s.exchanges) (reply_line reply) (replies_of (s.exchanges ++ exchange line reply ∷ []))
-          (replies-more s.exchanges line reply) s.sent sent;
+          AppendsPrefix-after base mid written (replies_of s.exchanges) (reply_line reply) (replies_of (s.exchanges ++ exchange line reply history ∷ []))
+          (replies-more s.exchanges line reply history) s.sent sent;
     }
 
 -- no whole line is left
@@ -231,7 +238,7 @@ cut-reading o before mid after n more taken piece feed start caller base written
       later = lines_in (with_bytes (past s.calls).feed piece);
       first = given_first s.calls taken piece s.bytes ∙ ap (λ ls. ls ++ lines_in (with_bytes (past s.calls).feed piece)) s.given;
       right = s.right;
-      passed = ap (λ (c : Caller). c.pass) s.remembered;
+      passed = seen-same _ _ (ap (λ (c : Caller). c.pass) s.remembered);
       sent = (replies_of s.exchanges, [], sym (append-nil (replies_of s.exchanges)), s.sent);
     }
 

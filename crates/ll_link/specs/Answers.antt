@@ -16,7 +16,9 @@ use Rattle.ll_publish.specs.declared.success.Success.TheVariants as success
 use Rattle.ll_rendition.specs.declared.fault.PublishFault.{PublishFault}
 use Rattle.ll_hub_channel.specs.declared.fault.HubFault.{HubFault}
 use Rattle.ll_hub_channel.specs.declared.fault.HubFault.TheVariants as hub
-use Rattle.ll_hub_channel.specs.Told.{IsAccepted, IsRefused, IsStanding}
+use Rattle.ll_ledger.specs.Sections.{HasAccepted, HasRefused, HasStanding}
+use Rattle.ll_history.specs.declared.deed.Logged.{Logged}
+use Rattle.ll_hub.specs.Passes.{PassValue}
 use Rattle.ll_hub_channel.specs.declared.fault.RoomFault.TheVariants as room
 use Rattle.ll_verdict.specs.declared.fault.ClockFault.TheVariants as reading
 use Rattle.ll_verdict.specs.declared.standing.Standing.{Standing}
@@ -56,55 +58,55 @@ refused_before channels says.Bad = Some BadLine
 refused_before channels says.TooLong = Some LineTooLong
 refused_before channels says.MediaTooLong = Some MediaTooLong
 
--- an item was published: after some events, the channel at `place` accepted the item that is spelled `text` and has the bytes `media` as
--- its item of the number `mark.value`, and the caller had seen fewer of its items
-pub record IsItemOf (c : Configuration) (place : ℕ) (passed : List ℕ) (text media : List ℕ) (mark : StampedValue ℕ) : Type 0 where
+-- An item was published: the channel at `place` accepted the item that is spelled `text` and has the bytes `media` as its item of the number
+-- `mark.value`. It stands in the hub's history, which its caller has seen up to `history` then: after all that the caller had seen before.
+pub record IsItemOf (c : Configuration) (place : ℕ) (before : PassValue) (history : List Logged) (text media : List ℕ) (mark : StampedValue ℕ) : Type 0 where
   pub item : Item
   pub read : item_in c text media ≡ Ok item
   pub room : mark.room ≡ place
   pub stamp : mark.stamp ≡ stamp.Publish item
   pub seen : ℕ
-  pub pass : slice_get passed place ≡ Some seen
-  pub accepted : IsAccepted c item seen mark.value
+  pub pass : slice_get before.seen place ≡ Some seen
+  pub accepted : HasAccepted before.history history place c seen item mark.value
 
--- an item was refused: after some events, the channel at `place` refused the item that is spelled `text` and has the bytes `media`, by its
--- first rule that refuses it, and the caller had seen no more of its items
-pub record IsRuledOut (c : Configuration) (place : ℕ) (passed : List ℕ) (text media : List ℕ) (reason : Refusal) : Type 0 where
+-- An item was refused: after all that was done to it up to `history`, the channel at `place` refused the item that is spelled `text` and has the
+-- bytes `media`, by its first rule that refuses it.
+pub record IsRuledOut (c : Configuration) (place : ℕ) (before : PassValue) (history : List Logged) (text media : List ℕ) (reason : Refusal) : Type 0 where
   pub item : Item
   pub read : item_in c text media ≡ Ok item
   pub seen : ℕ
-  pub pass : slice_get passed place ≡ Some seen
+  pub pass : slice_get before.seen place ≡ Some seen
   pub fault : PublishFault
-  pub rule : IsRefused c item seen fault
+  pub rule : HasRefused before.history history place c seen item fault
   pub told : reason ≡ refusal.Rule fault
 
 -- both, in the channel of the hub that is named `name`
-pub record IsItemIn (channels : List Configuration) (passed : List ℕ) (name text media : List ℕ) (mark : StampedValue ℕ) : Type 0 where
+pub record IsItemIn (channels : List Configuration) (before : PassValue) (history : List Logged) (name text media : List ℕ) (mark : StampedValue ℕ) : Type 0 where
   pub place : ℕ
   pub settings : Configuration
   pub known : channel_of_name channels 0 name ≡ Some (place, settings)
-  pub item : IsItemOf settings place passed text media mark
+  pub item : IsItemOf settings place before history text media mark
 
-pub record IsRuledOutIn (channels : List Configuration) (passed : List ℕ) (name text media : List ℕ) (reason : Refusal) : Type 0 where
+pub record IsRuledOutIn (channels : List Configuration) (before : PassValue) (history : List Logged) (name text media : List ℕ) (reason : Refusal) : Type 0 where
   pub place : ℕ
   pub settings : Configuration
   pub known : channel_of_name channels 0 name ≡ Some (place, settings)
-  pub rule : IsRuledOut settings place passed text media reason
+  pub rule : IsRuledOut settings place before history text media reason
 
 -- what a line announces was published, its item with its bytes in the channel of its name; or was refused by a rule of that channel
-abbrev pub IsAnnounced : List Configuration → List ℕ → says.Line → StampedValue ℕ → Type 0
-IsAnnounced channels passed (says.Item name text media) mark = IsItemIn channels passed name text media mark
-IsAnnounced channels passed (says.At name rendition) mark = ⊥
-IsAnnounced channels passed says.Bad mark = ⊥
-IsAnnounced channels passed says.TooLong mark = ⊥
-IsAnnounced channels passed says.MediaTooLong mark = ⊥
+abbrev pub IsAnnounced : List Configuration → PassValue → List Logged → says.Line → StampedValue ℕ → Type 0
+IsAnnounced channels before history (says.Item name text media) mark = IsItemIn channels before history name text media mark
+IsAnnounced channels before history (says.At name rendition) mark = ⊥
+IsAnnounced channels before history says.Bad mark = ⊥
+IsAnnounced channels before history says.TooLong mark = ⊥
+IsAnnounced channels before history says.MediaTooLong mark = ⊥
 
-abbrev pub IsOverruled : List Configuration → List ℕ → says.Line → Refusal → Type 0
-IsOverruled channels passed (says.Item name text media) reason = IsRuledOutIn channels passed name text media reason
-IsOverruled channels passed (says.At name rendition) reason = ⊥
-IsOverruled channels passed says.Bad reason = ⊥
-IsOverruled channels passed says.TooLong reason = ⊥
-IsOverruled channels passed says.MediaTooLong reason = ⊥
+abbrev pub IsOverruled : List Configuration → PassValue → List Logged → says.Line → Refusal → Type 0
+IsOverruled channels before history (says.Item name text media) reason = IsRuledOutIn channels before history name text media reason
+IsOverruled channels before history (says.At name rendition) reason = ⊥
+IsOverruled channels before history says.Bad reason = ⊥
+IsOverruled channels before history says.TooLong reason = ⊥
+IsOverruled channels before history says.MediaTooLong reason = ⊥
 
 -- why an item or a line is refused: before any room is asked, or by a rule of its channel; unless out of memory
 abbrev pub IsReason : Option Refusal → (Refusal → Type 0) → Refusal → Type 0
@@ -114,50 +116,50 @@ abbrev pub IsAnswer : Option Refusal → (StampedValue ℕ → Type 0) → (Refu
 IsAnswer before Published Ruled (Ok mark) = Published mark
 IsAnswer before Published Ruled (Err reason) = IsReason before Ruled reason
 
--- the answer to an item that is spelled `text` and has the bytes `media`, if the caller has seen `passed` of the channels: in the channel
--- at `place`, and in the one named `name`
-abbrev pub IsAnswerAt : Configuration → (place : ℕ) → (passed : List ℕ) → (text media : List ℕ) → Result (StampedValue ℕ) Refusal → Type 0
-IsAnswerAt c place passed text media answer =
-    IsAnswer (refused_item (item_in c text media)) (IsItemOf c place passed text media) (IsRuledOut c place passed text media) answer
+-- the answer to an item that is spelled `text` and has the bytes `media`, of a caller with this pass before, who has then seen the history up to
+-- `history`: in the channel at `place`, and in the one named `name`
+abbrev pub IsAnswerAt : Configuration → (place : ℕ) → PassValue → (history : List Logged) → (text media : List ℕ) → Result (StampedValue ℕ) Refusal → Type 0
+IsAnswerAt c place before history text media answer =
+    IsAnswer (refused_item (item_in c text media)) (IsItemOf c place before history text media) (IsRuledOut c place before history text media) answer
 
-abbrev pub IsAnswerIn : List Configuration → (passed : List ℕ) → (name text media : List ℕ) → Result (StampedValue ℕ) Refusal → Type 0
-IsAnswerIn channels passed name text media answer =
-    IsAnswer (refused_in (channel_of_name channels 0 name) text media) (IsItemIn channels passed name text media) (IsRuledOutIn channels passed name text media) answer
+abbrev pub IsAnswerIn : List Configuration → PassValue → (history : List Logged) → (name text media : List ℕ) → Result (StampedValue ℕ) Refusal → Type 0
+IsAnswerIn channels before history name text media answer =
+    IsAnswer (refused_in (channel_of_name channels 0 name) text media) (IsItemIn channels before history name text media) (IsRuledOutIn channels before history name text media) answer
 
--- where a rendition stands in the hub's channel named `name`; the caller had seen no more items of it
-pub record IsPlaceIn (channels : List Configuration) (passed : List ℕ) (name rendition : List ℕ) (s : Standing) : Type 0 where
+-- where a rendition stands in the hub's channel named `name`, after all that was done to it up to `history`
+pub record IsPlaceIn (channels : List Configuration) (before : PassValue) (history : List Logged) (name rendition : List ℕ) (s : Standing) : Type 0 where
   pub place : ℕ
   pub settings : Configuration
   pub known : channel_of_name channels 0 name ≡ Some (place, settings)
   pub index : ℕ
   pub named : named settings rendition ≡ Ok index
   pub seen : ℕ
-  pub pass : slice_get passed place ≡ Some seen
-  pub stands : IsStanding settings index seen s
+  pub pass : slice_get before.seen place ≡ Some seen
+  pub stands : HasStanding before.history history place settings seen index s
 
 -- the line asks for a place, and this is it
-abbrev pub IsPlaceAsked : List Configuration → List ℕ → says.Line → Standing → Type 0
-IsPlaceAsked channels passed (says.At name rendition) s = IsPlaceIn channels passed name rendition s
-IsPlaceAsked channels passed (says.Item name text media) s = ⊥
-IsPlaceAsked channels passed says.Bad s = ⊥
-IsPlaceAsked channels passed says.TooLong s = ⊥
-IsPlaceAsked channels passed says.MediaTooLong s = ⊥
+abbrev pub IsPlaceAsked : List Configuration → PassValue → List Logged → says.Line → Standing → Type 0
+IsPlaceAsked channels before history (says.At name rendition) s = IsPlaceIn channels before history name rendition s
+IsPlaceAsked channels before history (says.Item name text media) s = ⊥
+IsPlaceAsked channels before history says.Bad s = ⊥
+IsPlaceAsked channels before history says.TooLong s = ⊥
+IsPlaceAsked channels before history says.MediaTooLong s = ⊥
 
 -- the answer to a line that isn't refused: the number of its item, or the place that it asks for
-abbrev pub IsSuccess : List Configuration → List ℕ → says.Line → Success → Type 0
-IsSuccess channels passed line (success.Accepted count) = (mark : StampedValue ℕ) × (mark.value ≡ count) × IsAnnounced channels passed line mark
-IsSuccess channels passed line (success.NotKept count) = (mark : StampedValue ℕ) × (mark.value ≡ count) × IsAnnounced channels passed line mark
-IsSuccess channels passed line (success.Standing s) = IsPlaceAsked channels passed line s
-IsSuccess channels passed line success.Opened = ⊥
+abbrev pub IsSuccess : List Configuration → PassValue → List Logged → says.Line → Success → Type 0
+IsSuccess channels before history line (success.Accepted count) = (mark : StampedValue ℕ) × (mark.value ≡ count) × IsAnnounced channels before history line mark
+IsSuccess channels before history line (success.NotKept count) = (mark : StampedValue ℕ) × (mark.value ≡ count) × IsAnnounced channels before history line mark
+IsSuccess channels before history line (success.Standing s) = IsPlaceAsked channels before history line s
+IsSuccess channels before history line success.Opened = ⊥
 
 -- why a line is refused; a question for a place only for what is found before any room is asked
-abbrev pub IsLineReason : List Configuration → List ℕ → says.Line → Refusal → Type 0
-IsLineReason channels passed (says.Item name text media) reason =
-    IsReason (refused_before channels (says.Item name text media)) (IsOverruled channels passed (says.Item name text media)) reason
-IsLineReason channels passed (says.At name rendition) reason = refused_before channels (says.At name rendition) ≡ Some reason
-IsLineReason channels passed says.Bad reason = reason ≡ BadLine
-IsLineReason channels passed says.TooLong reason = reason ≡ LineTooLong
-IsLineReason channels passed says.MediaTooLong reason = reason ≡ MediaTooLong
+abbrev pub IsLineReason : List Configuration → PassValue → List Logged → says.Line → Refusal → Type 0
+IsLineReason channels before history (says.Item name text media) reason =
+    IsReason (refused_before channels (says.Item name text media)) (IsOverruled channels before history (says.Item name text media)) reason
+IsLineReason channels before history (says.At name rendition) reason = refused_before channels (says.At name rendition) ≡ Some reason
+IsLineReason channels before history says.Bad reason = reason ≡ BadLine
+IsLineReason channels before history says.TooLong reason = reason ≡ LineTooLong
+IsLineReason channels before history says.MediaTooLong reason = reason ≡ MediaTooLong
 
 -- the answer to an item that the hub refuses; no refusal of the channel's room ends the connection with Hub
 abbrev pub refused_by : HubFault → Result Refusal LinkFault

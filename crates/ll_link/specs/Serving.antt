@@ -2,6 +2,7 @@
 use Rattle.std.specs.Prelude.{◌≡◌, ℕ, List, [], ◌++◌, Option}
 use Rattle.std.specs.Io.KnownBytes.{Appends}
 use Rattle.ll_device.specs.Written.{AppendsPrefix}
+use Rattle.ll_hub.specs.Calls.{HasSeen}
 use Rattle.ll_hub.specs.Passes.{PassValue}
 use Rattle.ll_publish.specs.Line.{Line}
 use Rattle.ll_publish.specs.Lines.{FeedValue, lines_in}
@@ -28,7 +29,7 @@ pub record IsBroken (o : Origin) (taken : List ℕ) (start : Caller) (pass : Pas
   pub later : List Line
   pub given : (past calls).given ≡ lines_of exchanges ++ later
   pub right : AreRight o start exchanges
-  pub passed : pass ≡ (after_all o start exchanges).pass
+  pub passed : HasSeen (after_all o start exchanges).pass pass
   pub sent : AppendsPrefix base written (replies_of exchanges)
 
 -- and no whole line is left

@@ -1,6 +1,6 @@
 //! A player's request, as the hub answers it.
 ghost use Rattle.std.specs.Prelude.{◌≡◌, ℕ, Err, IfErr, IfOk, MatchResult, None, Ok, Some};
-ghost use Rattle.ll_hub.specs.Calls.{IsAskedOf, IsClaimed};
+ghost use Rattle.ll_hub.specs.Calls.{HasSeen, IsAskedOf, IsClaimed};
 ghost use Rattle.ll_settings.specs.Channels.{channel_of_name};
 ghost use Rattle.ll_settings.specs.Settings.{Configuration};
 ghost use Rattle.ll_link.specs.Answers.{unavailable_by};
@@ -31,8 +31,8 @@ pub(crate) fn ask<'a, L: Ledgers, C: Clock, G: Gate, K: Sink, D, B: Bell, R: Wai
     ensures own { IsOwn result }
     ensures unknown { channel_of_name service.now.hub.now 0 want.channel ≡ None → result ≡ Ok (Ok (Answer.Target TargetFault.NotFound)) }
     ensures told { (place : ℕ) (c : Configuration) → channel_of_name service.now.hub.now 0 want.channel ≡ Some (place, c)
-        → IfOk result (λ told. MatchResult told (IsToldAt service.now.hub.now place want pass.old.seen pass.new.seen)
-        (λ held. IsClaimed service.now.hub.now place want pass.old.seen pass.new.seen held.claim)) }
+        → IfOk result (λ told. MatchResult told (IsToldAt (C.shows service.now.clock.now) service.now.hub.now place want pass.old pass.new)
+        (λ held. IsClaimed (C.shows service.now.clock.now) service.now.hub.now place want pass.old pass.new held.claim)) }
     ensures hub { IfOk result (λ told. IfErr told (λ held. held.hub.now ≡ service.now.hub.now)) }
 {
     let Some((channel, _)) = service.hub.find(want.channel()) else {
@@ -62,12 +62,12 @@ fn ask_in<L: Ledgers, C: Clock, G: Gate, K: Sink, D, B: Bell, R: Wait>(
 ) -> Result<(Told, Option<HandedOut>), LinkFault>
     ensures own { IsOwn result }
     ensures full { IfOk result (λ told. told.0 ≡ Err AskFault.RecordFull → told.1 ≡ Some channel) }
-    ensures told { want ≡ again → IfOk result (λ told. IfOk told.0 (IsAskedOf service.now.hub.now channel want pass.old.seen pass.new.seen)) }
-    ensures unmade { IfOk result (λ told. IfErr told.0 (λ _. pass.new ≡ pass.old)) }
+    ensures told { want ≡ again → IfOk result (λ told. IfOk told.0 (IsAskedOf (C.shows service.now.clock.now) service.now.hub.now channel want pass.old pass.new)) }
+    ensures unmade { IfOk result (λ told. IfErr told.0 (λ _. HasSeen pass.old pass.new)) }
 {
     match ask_once(service, pass, channel, want)? {
         Err(AskFault::RecordFull) => {
-            let handed = service.hand_out(channel)?;
+            let handed = service.hand_out(pass, channel)?;
             let told = ask_once(service, pass, channel, again)?;
             Ok((told, Some(handed)))
         }
@@ -83,8 +83,8 @@ fn ask_once<L: Ledgers, C: Clock, G, K, D, B: Bell, R: Wait>(
     want: Want,
 ) -> Result<Told, LinkFault>
     ensures own { IsOwn result }
-    ensures told { IfOk result (λ told. IfOk told (IsAskedOf service.now.hub.now channel want pass.old.seen pass.new.seen)) }
-    ensures unmade { IfOk result (λ told. IfErr told (λ _. pass.new ≡ pass.old)) }
+    ensures told { IfOk result (λ told. IfOk told (IsAskedOf (C.shows service.now.clock.now) service.now.hub.now channel want pass.old pass.new)) }
+    ensures unmade { IfOk result (λ told. IfErr told (λ _. HasSeen pass.old pass.new)) }
 {
     let mut bell = *service.bell;
     match service

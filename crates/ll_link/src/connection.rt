@@ -186,7 +186,7 @@ impl<'a, L: Ledgers, P: TryLink, G: Gate, R: Wait> Connection<'a, L, P, G, R> {
     fn collect(&mut self, pass: &mut Pass<L>) -> Result<bool, LinkFault>
         ensures own { IsOwn result }
         ensures link { (self.new.inward ≡ self.old.inward) × (self.new.written ≡ self.old.written) × (self.new.failures ≡ self.old.failures) }
-        ensures collected { IfOk result (λ there. there ≡ true → HasCollected pass.old.seen pass.new.seen self.old self.new) }
+        ensures collected { IfOk result (λ there. there ≡ true → HasCollected pass.old pass.new self.old self.new) }
         ensures still { IfOk result (λ there. there ≡ false → self.new ≡ self.old) }
     {
         let Some(held) = self.held.take() else {

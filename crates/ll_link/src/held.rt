@@ -1,7 +1,8 @@
 //! A player's request that is held.
-ghost use Rattle.std.specs.Prelude.{◌≡◌, ℕ, List, IfErr, IfOk};
+ghost use Rattle.std.specs.Prelude.{◌≡◌, IfErr, IfOk};
 ghost use Rattle.ll_hub.specs.Calls.{IsWaited};
 ghost use Rattle.ll_hub.specs.Claim.{ClaimValue};
+ghost use Rattle.ll_hub.specs.Passes.{PassValue};
 ghost use Rattle.ll_link.specs.Connections.{IsReplyTo};
 ghost use Rattle.ll_link.specs.Faults.{IsOwn};
 
@@ -33,7 +34,7 @@ impl<L: Ledgers, G: Gate, R: Wait> Drop for Held<'_, L, G, R> {
             claim,
         } = self;
         let channel = claim.channel();
-        hub.close(rt, claim);
+        hub.close(rt, &mut hub.past(), claim);
         gate.freed(channel);
     }
 }
@@ -66,7 +67,7 @@ impl<'a, L: Ledgers, G: Gate, R: Wait> Held<'a, L, G, R> {
     /// Returns its answer, or itself if its reply isn't there yet.
     pub(crate) fn collect(self, pass: &mut Pass<L>) -> Waiting<'a, L, G, R>
         ensures own { IsOwn result }
-        ensures answer { IfOk result (λ told. IfOk told (IsReplyTo self.entry.hub.now self.entry.claim pass.old.seen pass.new.seen)) }
+        ensures answer { IfOk result (λ told. IfOk told (IsReplyTo self.entry.hub.now self.entry.claim pass.old pass.new)) }
         ensures still { IfOk result (λ told. IfErr told (λ held. (held.claim ≡ self.entry.claim) × (held.hub.now ≡ self.entry.hub.now))) }
     {
         let Held {
@@ -85,7 +86,7 @@ impl<'a, L: Ledgers, G: Gate, R: Wait + time::Clock> Held<'a, L, G, R> {
     /// Waits for its answer, no longer than about `limit`. Returns itself if the reply isn't there by then.
     pub(crate) fn wait(self, pass: &mut Pass<L>, limit: Duration) -> Waiting<'a, L, G, R>
         ensures own { IsOwn result }
-        ensures answer { IfOk result (λ told. IfOk told (IsReplyTo self.entry.hub.now self.entry.claim pass.old.seen pass.new.seen)) }
+        ensures answer { IfOk result (λ told. IfOk told (IsReplyTo self.entry.hub.now self.entry.claim pass.old pass.new)) }
         ensures still { IfOk result (λ told. IfErr told (λ held. (held.claim ≡ self.entry.claim) × (held.hub.now ≡ self.entry.hub.now))) }
     {
         let Held {
@@ -109,9 +110,9 @@ fn after<'a, L: Ledgers, G: Gate, R: Wait>(
     waited: Result<Waited, HubFault>,
 ) -> Waiting<'a, L, G, R>
     ensures own { IsOwn result }
-    ensures answer { (claim : ClaimValue) (before after : List ℕ) → IfOk waited (IsWaited hub.now claim before after)
+    ensures answer { (claim : ClaimValue) (before after : PassValue) → IfOk waited (IsWaited hub.now claim before after)
         → IfOk result (λ told. IfOk told (IsReplyTo hub.now claim before after)) }
-    ensures still { (claim : ClaimValue) (before after : List ℕ) → IfOk waited (IsWaited hub.now claim before after)
+    ensures still { (claim : ClaimValue) (before after : PassValue) → IfOk waited (IsWaited hub.now claim before after)
         → IfOk result (λ told. IfErr told (λ held. (held.claim ≡ claim) × (held.hub.now ≡ hub.now))) }
 {
     match waited {

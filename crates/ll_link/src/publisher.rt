@@ -10,9 +10,11 @@ ghost use Rattle.ll_publish.specs.Meaning.{meant};
 ghost use Rattle.ll_publish.specs.Refusals.{item_refusal, reply_line};
 ghost use Rattle.ll_settings.specs.Channels.{channel_of_name};
 ghost use Rattle.ll_link.specs.Answers.{IsAnswerAt, IsAnswerIn, refused_by, refused_in};
+ghost use mathlib.Core.List.{IsPrefix};
+ghost use Rattle.ll_hub.specs.Calls.{HasSeen};
 ghost use Rattle.ll_hub.specs.Passes.{PassValue};
 ghost use Rattle.ll_link.specs.Faults.{IsOwn, IsTrue};
-ghost use Rattle.ll_link.specs.Heard.{heard, heard_at, heard_in, unstamped};
+ghost use Rattle.ll_link.specs.Heard.{IsHeardAt, heard, heard_in, unstamped};
 ghost use Rattle.ll_link.specs.Kept.{HasToken};
 ghost use Rattle.ll_link.specs.Doors.{origin};
 ghost use Rattle.ll_link.specs.Publishing.{Caller, IsCutOff, IsReplyTo, IsServed, IsTold, caller, caller_after};
@@ -130,11 +132,11 @@ fn reply_to<L: Ledgers, C, G: Gate, K: Sink, D: Disk, B: Bell, R: Wait>(
     line: Line<'_>,
 ) -> Result<(Told, Option<Token>), LinkFault>
     ensures own { IsOwn result }
-    ensures right { IfOk result (λ told. IsTold (origin service.now.hub.now service.now.secrets.now) (caller pass.old opened.old.items) (meant line.entry) told.0) }
+    ensures right { IfOk result (λ told. IsTold (origin service.now.hub.now service.now.secrets.now) (caller pass.old opened.old.items) pass.new.history (meant line.entry) told.0) }
     ensures remembered { IfOk result (λ told. caller pass.new opened.new.items
-        ≡ caller_after (origin service.now.hub.now service.now.secrets.now) (meant line.entry) told.0 (caller pass.old opened.old.items)) }
+        ≡ caller_after (origin service.now.hub.now service.now.secrets.now) (meant line.entry) told.0 pass.new.history (caller pass.old opened.old.items)) }
     ensures kept { IfOk result (λ told. HasToken told.0 told.1) }
-    ensures unchanged { OnErr result (pass.new ≡ pass.old) }
+    ensures unanswered { OnErr result (HasSeen pass.old pass.new) }
 {
     match service.passage(opened, &line) {
         Passage::Passes => publish(service, pass, line),
@@ -159,10 +161,10 @@ fn publish<L: Ledgers, C, G: Gate, K: Sink, D: Disk, B: Bell, R: Wait>(
     line: Line<'_>,
 ) -> Result<(Told, Option<Token>), LinkFault>
     ensures own { IsOwn result }
-    ensures right { IfOk result (λ told. IsReplyTo service.now.hub.now pass.old (meant line.entry) told.0) }
-    ensures passed { IfOk result (λ told. pass.new ≡ heard service.now.hub.now (meant line.entry) told.0 pass.old) }
+    ensures right { IfOk result (λ told. IsReplyTo service.now.hub.now pass.old pass.new.history (meant line.entry) told.0) }
+    ensures passed { IfOk result (λ told. pass.new ≡ heard service.now.hub.now (meant line.entry) told.0 pass.new.history pass.old) }
     ensures kept { IfOk result (λ told. HasToken told.0 told.1) }
-    ensures unchanged { OnErr result (pass.new ≡ pass.old) }
+    ensures unanswered { OnErr result (HasSeen pass.old pass.new) }
 {
     match line {
         Line::Item(name, text, bytes) => publish_bytes(service, pass, name, text, bytes),
@@ -182,9 +184,9 @@ fn place<L: Ledgers, C, G, K, D, B, R: Wait>(
     rendition: &str,
 ) -> Result<Told, LinkFault>
     ensures own { IsOwn result }
-    ensures right { IfOk result (IsReplyTo service.now.hub.now pass.old (says.At name.now rendition.now)) }
-    ensures passed { IfOk result (λ told. pass.new ≡ heard_in (channel_of_name service.now.hub.now 0 name.now) told pass.old) }
-    ensures unchanged { OnErr result (pass.new ≡ pass.old) }
+    ensures right { IfOk result (IsReplyTo service.now.hub.now pass.old pass.new.history (says.At name.now rendition.now)) }
+    ensures passed { IfOk result (λ told. pass.new ≡ heard_in (channel_of_name service.now.hub.now 0 name.now) told pass.new.history pass.old) }
+    ensures unanswered { OnErr result (HasSeen pass.old pass.new) }
 {
     match service.hub.find(name) {
         Some((channel, settings)) => match named(settings, rendition) {
@@ -208,10 +210,10 @@ fn publish_bytes<L: Ledgers, C, G: Gate, K: Sink, D: Disk, B: Bell, R: Wait>(
     bytes: &[u8],
 ) -> Result<(Told, Option<Token>), LinkFault>
     ensures own { IsOwn result }
-    ensures right { IfOk result (λ told. IsReplyTo service.now.hub.now pass.old (says.Item name.now text.now bytes.now) told.0) }
-    ensures passed { IfOk result (λ told. pass.new ≡ heard_in (channel_of_name service.now.hub.now 0 name.now) told.0 pass.old) }
+    ensures right { IfOk result (λ told. IsReplyTo service.now.hub.now pass.old pass.new.history (says.Item name.now text.now bytes.now) told.0) }
+    ensures passed { IfOk result (λ told. pass.new ≡ heard_in (channel_of_name service.now.hub.now 0 name.now) told.0 pass.new.history pass.old) }
     ensures kept { IfOk result (λ told. HasToken told.0 told.1) }
-    ensures unchanged { OnErr result (pass.new ≡ pass.old) }
+    ensures unanswered { OnErr result (HasSeen pass.old pass.new) }
 {
     match Payload::of_bytes(bytes) {
         Some(payload) => publish_and_keep(service, pass, name, text, &payload),
@@ -231,10 +233,10 @@ fn publish_and_keep<L: Ledgers, C, G: Gate, K: Sink, D: Disk, B: Bell, R: Wait>(
 ) -> Result<(Told, Option<Token>), LinkFault>
     requires small { nat_le (length payload.now) media_limit ≡ true }
     ensures own { IsOwn result }
-    ensures right { IfOk result (λ told. IsReplyTo service.now.hub.now pass.old (says.Item name.now text.now payload.now) told.0) }
-    ensures passed { IfOk result (λ told. pass.new ≡ heard_in (channel_of_name service.now.hub.now 0 name.now) told.0 pass.old) }
+    ensures right { IfOk result (λ told. IsReplyTo service.now.hub.now pass.old pass.new.history (says.Item name.now text.now payload.now) told.0) }
+    ensures passed { IfOk result (λ told. pass.new ≡ heard_in (channel_of_name service.now.hub.now 0 name.now) told.0 pass.new.history pass.old) }
     ensures kept { IfOk result (λ told. HasToken told.0 told.1) }
-    ensures unchanged { OnErr result (pass.new ≡ pass.old) }
+    ensures unanswered { OnErr result (HasSeen pass.old pass.new) }
 {
     let turn = service.turn(name);
     let answer = publish_item(service, pass, name, text, payload)?;
@@ -254,9 +256,10 @@ fn publish_item<L: Ledgers, C, G: Gate, K: Sink, D, B: Bell, R: Wait>(
 ) -> Result<Published, LinkFault>
     ensures own { IsOwn result }
     ensures refused { (reason : Refusal) → refused_in (channel_of_name service.now.hub.now 0 name.now) text.now payload.now ≡ Some reason → result ≡ Ok (Err reason) }
-    ensures told { IfOk result (IsAnswerIn service.now.hub.now pass.old.seen name.now text.now payload.now) }
-    ensures passed { IfOk result (λ answer. pass.new ≡ heard_in (channel_of_name service.now.hub.now 0 name.now) (unstamped answer) pass.old) }
-    ensures unchanged { OnErr result (pass.new ≡ pass.old) }
+    ensures told { IfOk result (IsAnswerIn service.now.hub.now pass.old pass.new.history name.now text.now payload.now) }
+    ensures grows { IsPrefix pass.old.history pass.new.history }
+    ensures passed { IfOk result (λ answer. pass.new ≡ heard_in (channel_of_name service.now.hub.now 0 name.now) (unstamped answer) pass.new.history pass.old) }
+    ensures unanswered { OnErr result (HasSeen pass.old pass.new) }
 {
     let Some((channel, settings)) = service.hub.find(name) else {
         return Ok(Err(Refusal::UnknownChannel));
@@ -284,9 +287,9 @@ fn publish_to<L: Ledgers, C, G: Gate, K: Sink, D, B: Bell, R: Wait>(
     ensures own { IsOwn result }
     ensures refused { (fault : ItemFault) → item_in settings.now text.now payload.now ≡ Err fault → result ≡ Ok (Err (item_refusal fault), None) }
     ensures full { IfOk result (λ told. told.0 ≡ Err (Refusal.Rule PublishFault.RecordFull) → told.1 ≡ Some channel) }
-    ensures told { IfOk result (λ told. IsAnswerAt settings.now channel pass.old.seen text.now payload.now told.0) }
-    ensures passed { IfOk result (λ told. pass.new ≡ heard_at channel (unstamped told.0) pass.old) }
-    ensures unchanged { OnErr result (pass.new ≡ pass.old) }
+    ensures told { IfOk result (λ told. IsAnswerAt settings.now channel pass.old pass.new.history text.now payload.now told.0) }
+    ensures passed { IfOk result (λ told. IsHeardAt channel told.0 pass.old pass.new) }
+    ensures unanswered { OnErr result (HasSeen pass.old pass.new) }
 {
     let first = publish_once(service, pass, channel, settings, text, payload)?;
     publish_again(service, pass, channel, settings, text, payload, first)
@@ -307,16 +310,15 @@ fn publish_again<L: Ledgers, C, G: Gate, K: Sink, D, B: Bell, R: Wait>(
     ensures own { IsOwn result }
     ensures kept { first ≢ Err (Refusal.Rule PublishFault.RecordFull) → result ≡ Ok (first, None) }
     ensures full { IfOk result (λ told. told.0 ≡ Err (Refusal.Rule PublishFault.RecordFull) → told.1 ≡ Some channel) }
-    ensures told { (before : PassValue) → pass.old ≡ heard_at channel (unstamped first) before → IsAnswerAt settings.now channel before.seen text.now payload.now first
-        → IfOk result (λ told. IsAnswerAt settings.now channel before.seen text.now payload.now told.0) }
-    ensures passed { (before : PassValue) → pass.old ≡ heard_at channel (unstamped first) before
-        → IfOk result (λ told. pass.new ≡ heard_at channel (unstamped told.0) before) }
-    ensures unchanged { (before : PassValue) → pass.old ≡ heard_at channel (unstamped first) before → OnErr result (pass.new ≡ before) }
+    ensures told { (before : PassValue) → IsHeardAt channel first before pass.old → IsAnswerAt settings.now channel before pass.old.history text.now payload.now first
+        → IfOk result (λ told. IsAnswerAt settings.now channel before pass.new.history text.now payload.now told.0) }
+    ensures passed { (before : PassValue) → IsHeardAt channel first before pass.old → IfOk result (λ told. IsHeardAt channel told.0 before pass.new) }
+    ensures unanswered { (before : PassValue) → IsHeardAt channel first before pass.old → OnErr result (HasSeen before pass.new) }
 {
     if !is_full(&first) {
         return Ok((first, None));
     }
-    let handed = service.hand_out(channel)?;
+    let handed = service.hand_out(pass, channel)?;
     let second = publish_once(service, pass, channel, settings, text, payload)?;
     Ok((second, Some(handed)))
 }
@@ -359,9 +361,9 @@ fn publish_once<L: Ledgers, C, G, K, D, B: Bell, R: Wait>(
     requires known { slice_get service.now.hub.now channel ≡ Some settings.now }
     ensures own { IsOwn result }
     ensures refused { (fault : ItemFault) → item_in settings.now text.now payload.now ≡ Err fault → result ≡ Ok (Err (item_refusal fault)) }
-    ensures told { IfOk result (IsAnswerAt settings.now channel pass.old.seen text.now payload.now) }
-    ensures passed { IfOk result (λ answer. pass.new ≡ heard_at channel (unstamped answer) pass.old) }
-    ensures unchanged { OnErr result (pass.new ≡ pass.old) }
+    ensures told { IfOk result (IsAnswerAt settings.now channel pass.old pass.new.history text.now payload.now) }
+    ensures passed { IfOk result (λ answer. IsHeardAt channel answer pass.old pass.new) }
+    ensures unanswered { OnErr result (HasSeen pass.old pass.new) }
 {
     let item = match Item::read(service.alloc, settings, text, payload) {
         Ok(item) => item,

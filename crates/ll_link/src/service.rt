@@ -1,11 +1,12 @@
 //! What connections are served with, and the hand-out of a full record.
 ghost use Rattle.std.specs.Prelude.{◌≡◌, IfOk};
+ghost use Rattle.ll_hub.specs.Calls.{HasSeen};
 ghost use Rattle.ll_link.specs.Faults.{IsOwn};
 
 use crate::fault::LinkFault;
 use ll_counts::Gate;
 use ll_door::Digest;
-use ll_hub::{Hub, Ledgers, Sink};
+use ll_hub::{Hub, Ledgers, Pass, Sink};
 use ll_spool::Spool;
 use std::alloc::Global;
 use std::marker::Model;
@@ -55,14 +56,21 @@ pub(crate) struct NoSpool {
 }
 
 impl<L: Ledgers, C, G: Gate, K: Sink, D, B, R: Wait> Service<'_, L, C, G, K, D, B, R> {
-    /// Hands the full record of the channel at place `channel` to the sink.
-    pub(crate) fn hand_out(&self, channel: usize) -> Result<HandedOut, LinkFault>
+    /// Hands the full record of the channel at place `channel` to the sink. Its caller, with `pass`, has then seen that.
+    pub(crate) fn hand_out(
+        &self,
+        pass: &mut Pass<L>,
+        channel: usize,
+    ) -> Result<HandedOut, LinkFault>
         ensures own { IsOwn result }
         ensures place { IfOk result (λ handed. handed ≡ channel) }
+        ensures seen { HasSeen pass.old pass.new }
     {
         self.gate.filled(channel);
-        let mut sink = *self.sink;
-        match self.hub.rotate_to(self.rt, channel, &mut sink) {
+        let (mut sink, mut past) = (*self.sink, pass.past());
+        let handed = self.hub.rotate_to(self.rt, &mut past, channel, &mut sink);
+        pass.learn(&past);
+        match handed {
             Ok(()) => Ok(HandedOut { channel }),
             Err(_) => Err(LinkFault::Hub),
         }

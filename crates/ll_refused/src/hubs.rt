@@ -147,7 +147,7 @@ fn collect<L: Ledgers, R: Wait>(
     let is_right = match waited {
         Ok(Waited::Reply(reply)) => answer_in(reply) == CallResult::Text(1),
         Ok(Waited::Still(claim)) => {
-            hub.close(tools.rt, claim);
+            hub.close(tools.rt, &mut hub.past(), claim);
             false
         }
         Err(_) => false,
@@ -157,7 +157,7 @@ fn collect<L: Ledgers, R: Wait>(
 
 fn close<L: Ledgers, R: Wait>(tools: &Tools<'_, R>, hub: &Hub<L>, claim: Claim) -> Tried {
     tools.refuse_all();
-    let is_right = hub.close(tools.rt, claim);
+    let is_right = hub.close(tools.rt, &mut hub.past(), claim);
     let met = tools.end();
     judge(met, false, is_right)
 }

@@ -55,13 +55,15 @@ fn entries<R: Wait>(rt: &R, alloc: Global, sink: &Kept<'_, R>) -> u64 {
 
 /// Hands out the record of a hub's first channel to a sink.
 fn hand_out<L: Ledgers, R: Wait + Abort>(rt: &R, hub: &Hub<L>, mut sink: &Kept<'_, R>) {
-    hub.rotate_to(rt, 0, &mut sink).expect(rt, "a chunk");
+    hub.rotate_to(rt, &mut hub.past(), 0, &mut sink)
+        .expect(rt, "a chunk");
 }
 
 /// Takes `readings` readings of the clock.
 fn tick_each<L: Ledgers, R: Wait + Abort>(rt: &R, hub: &Hub<L>, readings: u64) {
     for ms in 0..readings {
-        hub.tick(rt, &mut Silent, ms).expect(rt, "a reading");
+        hub.tick(rt, &mut Silent, &mut hub.past(), ms)
+            .expect(rt, "a reading");
     }
 }
 

@@ -57,7 +57,9 @@ impl<L: Ledgers, K: Sink + Drop, R: Wait + Clock> Accepts for Restored<'_, L, K,
             Err(_) => return Ok(None),
         };
         if count % RECORD == 0 {
-            let handed_out = self.hub.rotate_to(self.rt, self.place, &mut self.sink);
+            let handed_out = self
+                .hub
+                .rotate_to(self.rt, &mut self.hub.past(), self.place, &mut self.sink);
             if handed_out.is_err() {
                 return Err(AllocError);
             }

@@ -490,15 +490,20 @@ impl<
         service: &Service<'_, L, C, G, K, D, B, R>,
     ) {
         let (hub, ms) = (service.hub, self.watch.now());
-        let mut bell = *service.bell;
+        let (mut bell, mut past) = (*service.bell, hub.past());
         let (mut first, mut again) = (0, None);
         for _ in 0..2 * CHANNELS {
-            let told = hub.tick_from(self.rt, &mut bell, first, ms);
+            let told = hub.tick_from(self.rt, &mut bell, &mut past, first, ms);
             let Err(HubFault::Room { channel, .. }) = told else {
                 return;
             };
             let mut sink = *service.sink;
-            if again != Some(channel) && hub.rotate_to(self.rt, channel, &mut sink).is_ok() {
+            let is_first = again != Some(channel);
+            if is_first
+                && hub
+                    .rotate_to(self.rt, &mut past, channel, &mut sink)
+                    .is_ok()
+            {
                 again = Some(channel);
                 first = channel;
             } else {
@@ -512,9 +517,12 @@ impl<
         &self,
         service: &Service<'_, L, C, G, K, D, B, R>,
     ) {
+        let mut past = service.hub.past();
         for channel in 0..self.records.len() {
             let mut sink = *service.sink;
-            let _ = service.hub.rotate_to(self.rt, channel, &mut sink);
+            let _ = service
+                .hub
+                .rotate_to(self.rt, &mut past, channel, &mut sink);
         }
     }
 }

@@ -7,5 +7,5 @@ returns-clause-told g c = c.publish_again.ensures.told c.args.pass.now c.in_ok-f
 pub returns-clause-passed : goal.returns-clause-passed
 returns-clause-passed g c = c.publish_again.ensures.passed c.args.pass.now c.in_ok-first.ensures.passed
 
-pub returns-clause-unchanged : goal.returns-clause-unchanged
-returns-clause-unchanged g c = c.publish_again.ensures.unchanged c.args.pass.now c.in_ok-first.ensures.passed
+pub returns-clause-unanswered : goal.returns-clause-unanswered
+returns-clause-unanswered g c = c.publish_again.ensures.unanswered c.args.pass.now c.in_ok-first.ensures.passed

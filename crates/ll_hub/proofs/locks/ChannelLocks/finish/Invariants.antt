@@ -1,10 +1,12 @@
 use Rattle.std.specs.Prelude.{◌≡◌, ◌+◌, ◌≤◌, IsTrue, length, map, sum, vec_capacity, vec_len}
+use mathlib.Core.List.{IsPrefix}
 use Rattle.ll_hub.specs.Calls.{AreTotals}
 use Rattle.ll_hub.proofs.locks.ChannelLocks.finish.Given as goal
 
 abbrev pub invariant-loop-channel_lock : goal.invariant-loop-channel_lock
 invariant-loop-channel_lock g l = record {
-  totals : IsTrue l.at_home → AreTotals l.fn.self l.found.items;
+  totals : IsTrue l.at_home → AreTotals l.fn.self l.fn.past l.past l.found.items;
+  grows : IsPrefix l.fn.past l.past;
   each : vec_len l.found + vec_len l.left ≡ length l.fn.self;
   room : vec_len l.found + vec_len l.left ≤ vec_capacity l.found;
   parts : l.all.parts ≡ l.fn.all.parts + vec_len l.found;

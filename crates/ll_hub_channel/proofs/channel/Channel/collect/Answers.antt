@@ -11,8 +11,8 @@ use Rattle.ll_room.specs.declared.asked.Collected.TheVariants.{Got}
 use Rattle.ll_hub_channel.proofs.CountLemmas.{as-counted}
 use Rattle.ll_hub_channel.proofs.ToldLemmas.{IsHanded, among-ready, handed, left-beside, none-missing, the-value, tried}
 use Rattle.ll_hub_channel.specs.Channel.{ticket_at}
-use Rattle.ll_hub_channel.specs.Section.{IsAsCounted}
-use Rattle.ll_hub_channel.specs.Told.{IsDecidedIn}
+use Rattle.ll_hub_channel.specs.Section.{IsAsCounted, IsCollected}
+use Rattle.ll_hub_channel.specs.Told.{IsDecided}
 use Rattle.ll_hub_channel.proofs.channel.Channel.collect.Goals as goal
 use Rattle.ll_hub_channel.proofs.channel.Channel.collect.Goals.{After-collect}
 
@@ -54,22 +54,22 @@ invariant_of-self c =
 
 -- its reply, by any events that are recorded
 told : (c : After-collect) (m : StampedValue Reply) → Got m ≡ c.collect.result → (es : List Event) → IsRecorded c.self.inside.recorder es
-    → (m.room ≡ c.args.known.place) × (m.stamp ≡ stamp.Collect c.args.entry.ticket) × IsDecidedIn c.args.known.settings.now es c.args.entry m.value
+    → (m.room ≡ c.args.known.place) × (m.stamp ≡ stamp.Collect c.args.entry.ticket) × IsDecided c.args.known.settings.now es c.args.entry m.value
 told c m is es k =
     let here = c.if-not-is_here.ensures.0 refl in
     tried c.self.inside.recorder.room es _ _ c.args.entry m (reply c es k) (is ∙ got c es k) here.number here.settings
 
 pub returns-clause-tried : goal.returns-clause-tried
 returns-clause-tried c =
-    let t = told (goal.at.returns-clause-tried c).After-collect c.in-Got.reply (sym c.in-Got.is) c.self.invariant.events c.self.invariant.recorded in
-    (t.0, t.1, record { events = c.self.invariant.events; decided = t.2 })
-
-pub returns-clause-collected : goal.returns-clause-collected
-returns-clause-collected c es recorded =
-    let at = (goal.at.returns-clause-collected c).After-collect in
-    let before = subst (λ r. IsRecorded r es) (sym c.self.view_is) recorded in (
-      subst (λ (p : Ticket). IsRecorded c.collect.new.self (es ++ Collect p.ticket ∷ [])) (its-value at) (c.collect.ensures.handed (is-got at) es before),
-      (told at c.in-Got.reply (sym c.in-Got.is) es before).2,
+    let at = (goal.at.returns-clause-tried c).After-collect in
+    let its = told at c.in-Got.reply (sym c.in-Got.is) in
+    let here = its c.self.invariant.events c.self.invariant.recorded in (
+      here.0,
+      here.1,
+      subst (λ r. IsCollected r c.collect.new.self c.args.known.settings.now c.args.entry c.in-Got.reply.value) c.self.view_is (record {
+        recorded = λ es before. subst (λ (p : Ticket). IsRecorded c.collect.new.self (es ++ Collect p.ticket ∷ [])) (its-value at) (c.collect.ensures.handed (is-got at) es before);
+        decided = λ es before. (its es before).2;
+      }),
     )
 
 pub returns-clause-counts : goal.returns-clause-counts

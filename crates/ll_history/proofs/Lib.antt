@@ -1,0 +1,3 @@
+mod KeepingLemmas
+pub mod PrefixLemmas
+pub mod HistoryLemmas
