@@ -1,6 +1,6 @@
 //! The gate that answers pass before they are sent, and by which connections report what they get.
 use ll_item::Item;
-use ll_publish::Refusal;
+use ll_publish::{Refusal, Success};
 use ll_wire::Answer;
 
 /// A gate that each answer passes before it is sent, and an observer of what connections get. Channels are given by their places. Only
@@ -20,6 +20,12 @@ pub trait Gate {
 
     /// Is called when a publisher's item for a channel was accepted, or was refused for a reason.
     fn published(&self, _channel: usize, _told: Result<&Item, Refusal>) {}
+
+    /// Is called when a publisher's line has given the secret of a channel.
+    fn opened(&self, _channel: usize) {}
+
+    /// Is called when a publisher's line has its answer, after the calls above.
+    fn told(&self, _told: &Result<Success, Refusal>) {}
 
     /// Is called when the record of a channel was full, and is handed out.
     fn filled(&self, _channel: usize) {}

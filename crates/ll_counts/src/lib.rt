@@ -10,3 +10,4 @@ mod pulse;
 
 pub use gate::Gate;
 pub use numbers::{Health, Numbers};
+pub use pulse::bytes_of;

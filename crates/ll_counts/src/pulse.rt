@@ -65,7 +65,7 @@ impl Pulse {
 }
 
 /// Returns the number of bytes of an item.
-fn bytes_of(item: &Item) -> u64 {
+pub fn bytes_of(item: &Item) -> u64 {
     match item {
         Item::Part(part) => part.media.len(),
         Item::Init { media, .. } => media.len(),

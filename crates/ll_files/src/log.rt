@@ -1,4 +1,4 @@
-//! The log: the file that the numbers of channels go to.
+//! The log: the file that the numbers of channels go to, and the lines of publishers.
 use crate::journal::Journal;
 use ll_attr::Text;
 use std::alloc::{AllocError, Global};
@@ -28,11 +28,6 @@ impl<'a, R: Files<File = File> + Eprint> Log<'a, R> {
 }
 
 impl<R: Eprint> Log<'_, R> {
-    /// Returns whether lines are kept.
-    pub fn is_kept(&self) -> bool {
-        self.file.is_some()
-    }
-
     /// Appends `lines`.
     pub fn add(&self, lines: &str) {
         if let Some(file) = &self.file {

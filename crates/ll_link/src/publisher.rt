@@ -96,6 +96,7 @@ fn answer<L: Ledgers, P: Link, C, G: Gate, K: Sink, D: Disk, B: Bell, R: Wait>(
         };
         let (reply, kept) = reply_to(service, pass, opened, line)?;
         *answers = answers.saturating_add(1);
+        service.gate.told(&reply);
         service.gate.pass(*answers);
         tell(service, link, &reply, kept)?;
     }
@@ -144,6 +145,7 @@ fn reply_to<L: Ledgers, C, G: Gate, K: Sink, D: Disk, B: Bell, R: Wait>(
             if opened.push(channel).is_err() {
                 return Err(LinkFault::Memory);
             }
+            service.gate.opened(channel);
             Ok((Ok(Success::Opened), None))
         }
         Passage::Stays(channel) => {

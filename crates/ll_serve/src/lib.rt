@@ -11,4 +11,5 @@ pub use bells::Bells;
 pub use links::serve_links;
 pub use ll_device::{Link, Role, Source, TryLink};
 pub use ll_link::{Bell, Gate, LinkFault, Service, serve_link, serve_link_within};
+pub use ll_notes::{Addressed, Notes};
 pub use players::serve_players;

@@ -7,7 +7,8 @@ ghost use Rattle.ll_hub.specs.Passes.{new_pass};
 use crossbeam_channel::{Receiver, Sender};
 use ll_device::{CountedLink, Link, Role, Source};
 use ll_hub::{Bell, Clock, Hub, HubFault, Ledgers, Pass, Sink};
-use ll_link::{Gate, Service, serve_link};
+use ll_link::{Gate, LinkFault, Service, serve_link};
+use ll_notes::{Addressed, Ending, NotedGate, Notes};
 use ll_spool::Disk;
 use std::alloc::Global;
 use std::marker::Brand;
@@ -19,7 +20,8 @@ use std::thread::Threads;
 use std::{thread, time};
 
 /// Serves the connections of `source` by `workers` workers, each of which serves one at a time, until `source` gives no more and all are
-/// served. A connection's fault ends that connection alone. Returns the workers' passes, which [`Hub::finish`] takes.
+/// served. A connection's fault ends that connection alone. What becomes of publishers' connections goes to `notes`, if there are some.
+/// Returns the workers' passes, which [`Hub::finish`] takes.
 ///
 /// All passes are taken before the first connection. A worker is started when a connection comes while each started worker has one to
 /// serve, until all are started; it stays to the end. If the system starts no thread, the connection is served by the next worker that is
@@ -32,7 +34,8 @@ use std::{thread, time};
 /// 2. Out of memory, also before the first pass was taken: Memory.
 pub fn serve_links<
     L: Ledgers + Send + Sync,
-    S: Source + Send,
+    P: Link + Addressed + Send,
+    S: Source<Peer = P> + Send,
     C: Clock + Sync,
     G: Gate + Sync,
     K: Sink + Sync,
@@ -41,6 +44,7 @@ pub fn serve_links<
     R: Threads + Wait + time::Clock + Sync,
 >(
     service: &Service<'_, L, C, G, K, D, B, R>,
+    notes: Option<&Notes<'_, R>>,
     role: Role,
     source: &mut S,
     workers: usize,
@@ -52,12 +56,13 @@ pub fn serve_links<
     ensures untouched { IfErr result (λ e. All (λ p. p ≡ new_pass (length service.now.hub.now)) e.0.items) }
 {
     let alloc = service.alloc;
-    let Ok((to, from)) = crossbeam_channel::unbounded::<S::Peer, Global>(alloc) else {
+    let Ok((to, from)) = crossbeam_channel::unbounded::<P, Global>(alloc) else {
         return Err((Vec::new(alloc), HubFault::Memory));
     };
     let passes = seats(service.rt, alloc, workers, service.hub)?;
     let shift = Shift {
         service,
+        notes,
         role,
         links: from,
         open: AtomicU64::new(0),
@@ -112,6 +117,7 @@ fn one_more<L: Ledgers, R: Wait>(
 #[derive(Drop)]
 struct Shift<'a, L: Ledgers, P: Drop, C, G, K, D, B, R> {
     service: &'a Service<'a, L, C, G, K, D, B, R>,
+    notes: Option<&'a Notes<'a, R>>,
     role: Role,
     links: Receiver<P>,
     /// The number of connections that were handed out and aren't served to their end.
@@ -139,7 +145,8 @@ impl<L: Ledgers, P: Link, C, G, K, D, B, R: Wait> Shift<'_, L, P, C, G, K, D, B,
 /// Serves the connections of `source` by at most one worker for each pass of `given`, and returns the passes.
 fn share_out<
     L: Ledgers + Send + Sync,
-    S: Source,
+    P: Link + Addressed + Send,
+    S: Source<Peer = P>,
     C: Clock + Sync,
     G: Gate + Sync,
     K: Sink + Sync,
@@ -147,8 +154,8 @@ fn share_out<
     B: Bell + Sync,
     R: Threads + Wait + time::Clock + Sync,
 >(
-    shift: &Shift<'_, L, S::Peer, C, G, K, D, B, R>,
-    to: Sender<S::Peer>,
+    shift: &Shift<'_, L, P, C, G, K, D, B, R>,
+    to: Sender<P>,
     source: &mut S,
     given: Vec<Pass<L>>,
 ) -> Vec<Pass<L>>
@@ -166,7 +173,8 @@ fn share_out<
 /// have ended.
 fn feed<
     L: Ledgers + Send + Sync,
-    S: Source,
+    P: Link + Addressed + Send,
+    S: Source<Peer = P>,
     C: Clock + Sync,
     G: Gate + Sync,
     K: Sink + Sync,
@@ -174,8 +182,8 @@ fn feed<
     B: Bell + Sync,
     R: Threads + Wait + time::Clock + Sync,
 >(
-    shift: &Shift<'_, L, S::Peer, C, G, K, D, B, R>,
-    to: Sender<S::Peer>,
+    shift: &Shift<'_, L, P, C, G, K, D, B, R>,
+    to: Sender<P>,
     source: &mut S,
     seats: &Mutex<IterMut<'_, Pass<L>>>,
     workers: u64,
@@ -184,7 +192,7 @@ fn feed<
         thread::scope_env(),
         shift.service.rt,
         |scope|
-            requires { IsSync R.row × IsSync C.row × IsSync G.row × IsSync K.row × IsSync B.row × IsSync L.row × IsSend L.row × IsSend S.Peer.row }
+            requires { IsSync R.row × IsSync C.row × IsSync G.row × IsSync K.row × IsSync B.row × IsSync L.row × IsSend L.row × IsSend P.row }
         {
             let to = to;
             let mut started = 0;
@@ -205,10 +213,16 @@ fn feed<
 
 /// Takes a pass, and serves one connection after another, until no more come.
 // It takes its pass itself: one that was moved into the closure of a thread would be lost if the thread isn't started.
-fn work<L: Ledgers, P: Link, C: Clock, G: Gate, K: Sink, D: Disk, B: Bell, R: Wait + time::Clock>(
-    shift: &Shift<'_, L, P, C, G, K, D, B, R>,
-    seats: &Mutex<IterMut<'_, Pass<L>>>,
-) {
+fn work<
+    L: Ledgers,
+    P: Link + Addressed,
+    C: Clock,
+    G: Gate,
+    K: Sink,
+    D: Disk,
+    B: Bell,
+    R: Wait + time::Clock,
+>(shift: &Shift<'_, L, P, C, G, K, D, B, R>, seats: &Mutex<IterMut<'_, Pass<L>>>) {
     let seat = seats.lock(shift.service.rt).next();
     let Some(pass) = seat else {
         return;
@@ -223,13 +237,13 @@ fn work<L: Ledgers, P: Link, C: Clock, G: Gate, K: Sink, D: Disk, B: Bell, R: Wa
     unreachable!()
 }
 
-/// Serves `link` to its end, and counts how it is read. Its fault is dropped.
+/// Serves `link` to its end, and counts how it is read. Its fault is noted, and dropped.
 // Not inlined, so that a worker has touched little of its stack until it has a connection.
 #[inline(never)]
 fn serve_counted<
     L: Ledgers,
     M: Ledger,
-    P: Link,
+    P: Link + Addressed,
     C: Clock,
     G: Gate,
     K: Sink,
@@ -241,6 +255,39 @@ fn serve_counted<
     requires parts { blank.parts ≡ M.parts }
     requires two { blank.parts ≡ 2 }
 {
+    let gate = NotedGate::new(shift.service.gate, shift.notes, link.remote());
+    let service = with_gate(shift.service, &gate);
     let mut counted: CountedLink<P, M> = CountedLink::new(link, blank);
-    let _ = serve_link(shift.service, shift.role, &mut counted, pass);
+    let served = serve_link(&service, shift.role, &mut counted, pass);
+    gate.ended(ending_of(&served));
+}
+
+/// Returns `service` with the gate `gate` in place of its own.
+fn with_gate<'a, L: Ledgers, C, G, H, K, D, B, R>(
+    service: &Service<'a, L, C, G, K, D, B, R>,
+    gate: &'a H,
+) -> Service<'a, L, C, H, K, D, B, R> {
+    Service {
+        rt: service.rt,
+        alloc: service.alloc,
+        clock: service.clock,
+        gate,
+        sink: service.sink,
+        bell: service.bell,
+        hub: service.hub,
+        spools: service.spools,
+        secrets: service.secrets,
+    }
+}
+
+/// Returns why a connection has ended; `served` is the result of serving it.
+fn ending_of(served: &Result<u64, LinkFault>) -> Ending {
+    match served {
+        Ok(_) => Ending::Closed,
+        Err(LinkFault::Read) => Ending::Read,
+        Err(LinkFault::Write) => Ending::Write,
+        Err(LinkFault::Hub) => Ending::Hub,
+        Err(LinkFault::Memory) => Ending::Memory,
+        Err(LinkFault::Endless) => Ending::Endless,
+    }
 }

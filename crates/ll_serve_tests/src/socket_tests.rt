@@ -125,7 +125,7 @@ fn admit<
     L: Ledgers + Send + Sync,
     R: Net<Listener = TcpListener, Stream = TcpStream> + Threads + Wait + Clock + Eprint + Sync,
 >(rt: &R, alloc: Global, hub: &Hub<L>, role: Role, listener: &mut Few<'_, R>) -> Vec<Pass<L>> {
-    match serve_links(&service(rt, alloc, hub), role, listener, 1) {
+    match serve_links(&service(rt, alloc, hub), None, role, listener, 1) {
         Ok(passes) => passes,
         Err((passes, _fault)) => passes,
     }

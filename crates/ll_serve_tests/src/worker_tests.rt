@@ -8,7 +8,7 @@ use crate::rows::{same, same_number};
 use crate::wires::{ANSWER, Dropped, GET, Open, no_spools, text_of};
 use ll_device::{Failed, Writer};
 use ll_hub::{Blanks, Hub, Ledgers, Pass};
-use ll_serve::{Gate, Link, Role, Service, Source, serve_links};
+use ll_serve::{Addressed, Gate, Link, Role, Service, Source, serve_links};
 use std::alloc::Global;
 use std::marker::Brand;
 use std::process::Abort;
@@ -53,6 +53,8 @@ impl<R: Wait> Link for Peer<'_, R> {
         false
     }
 }
+
+impl<R> Addressed for Peer<'_, R> {}
 
 /// A connection for each box. After every `at_a_time` connections it waits until all that it gave have been answered.
 #[derive(Drop)]
@@ -167,7 +169,7 @@ fn serve_boxes<L: Ledgers + Send + Sync, G: Gate + Sync, R: Threads + Wait + Clo
         spools: no_spools(),
         secrets: &[],
     };
-    match serve_links(&service, Role::Player, &mut peers, workers) {
+    match serve_links(&service, None, Role::Player, &mut peers, workers) {
         Ok(passes) => passes,
         Err((passes, _fault)) => passes,
     }

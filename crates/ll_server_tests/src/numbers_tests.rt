@@ -114,19 +114,23 @@ fn check_health(rt: &(impl Abort + Clock), alloc: Global, row: &str) -> Result<(
 }
 
 /// Returns the item of this line, or `None` if it has none.
-fn item(alloc: Global, line: &str) -> Option<Item> {
+pub(crate) fn item(alloc: Global, line: &str) -> Option<Item> {
     let settings = Settings::read(alloc, SHORT).ok()?;
     Item::read(alloc, &settings, line, &Payload::none()).ok()
 }
 
-/// Returns counts of 0 for one channel.
-fn numbers<R: Clock>(rt: &R, alloc: Global) -> Result<Numbers<'_, R>, Fail> {
+/// Returns the settings of one channel.
+pub(crate) fn channels(alloc: Global) -> Result<Vec<Settings>, AllocError> {
     let Ok(settings) = Settings::read(alloc, SHORT) else {
-        return Err(Fail::from(AllocError));
+        return Err(AllocError);
     };
-    let channels = vec![in alloc; settings]?;
+    Ok(vec![in alloc; settings]?)
+}
+
+/// Returns counts of 0 for one channel.
+pub(crate) fn numbers<R: Clock>(rt: &R, alloc: Global) -> Result<Numbers<'_, R>, Fail> {
     let start = Instant::now(rt)?;
-    Ok(Numbers::new(rt, alloc, start, &channels)?)
+    Ok(Numbers::new(rt, alloc, start, &channels(alloc)?)?)
 }
 
 /// Compares the numbers after the event of a row with what stands after the arrow.

@@ -9,7 +9,9 @@ ghost use Rattle.std.specs.Prelude.{◌≡◌, IfErr};
 ghost use Rattle.ll_replay.specs.declared.outcome.RunFault.{RunFault};
 
 mod calendar;
+mod clock;
 mod doors;
+mod log_lines;
 mod multivariant;
 mod push;
 mod restoring;

@@ -1,4 +1,4 @@
-//! Runs the server: serves players and publishers, and keeps the channels' time, records and numbers.
+//! Runs the server: opens its files and ports, and starts its threads.
 ghost use denote.Param.Send.{IsSend};
 ghost use Rattle.std.specs.Prelude.{◌≡◌, ◌≤◌, length};
 
@@ -8,12 +8,12 @@ use crate::status::serve_status;
 use crate::stop::Stop;
 use crate::watch::Watch;
 use ll_command::Fault;
-use ll_config::{CHANNELS, Config, ConfigFault, Workers};
+use ll_config::{Config, ConfigFault, Workers};
 use ll_counts::Numbers;
 use ll_device::Listener;
 use ll_files::{Log, Records, SpoolFiles, Unusable};
-use ll_format::UtcTime;
 use ll_hub::{Bell, Blanks, Clock, Hub, HubFault, Ledgers, Pass, Sink};
+use ll_notes::Notes;
 use ll_serve::{Bells, Gate, Role, Service, serve_links, serve_players};
 use ll_settings::Settings;
 use ll_spool::Disk;
@@ -25,28 +25,20 @@ use std::net::{Net, TcpListener, TcpStream};
 use std::rt::Files;
 use std::sync::Wait;
 use std::thread::Threads;
-use std::time::{Duration, Instant, SystemTime, UNIX_EPOCH};
+use std::time::Instant;
 use std::{thread, time};
-
-/// The time between two readings of the clock that the channels take, in milliseconds.
-const TICK: u64 = 250;
-
-/// The number of readings after which the records are handed out, if they are kept: every 10 seconds. What wasn't handed out when the
-/// server stops is lost.
-const TICKS: u64 = 40;
-
-/// The number of hand-outs after which the numbers of the channels are written, if they are kept: every minute.
-const ROUNDS: u64 = 6;
 
 /// A server without its channels.
 #[derive(Drop)]
-struct Server<'a, R> {
-    rt: &'a R,
-    alloc: Global,
-    watch: Watch<'a, R>,
-    records: Records<'a, R>,
-    numbers: Numbers<'a, R>,
-    log: Log<'a, R>,
+pub(crate) struct Server<'a, R> {
+    pub(crate) rt: &'a R,
+    pub(crate) alloc: Global,
+    pub(crate) watch: Watch<'a, R>,
+    pub(crate) records: Records<'a, R>,
+    pub(crate) numbers: Numbers<'a, R>,
+    pub(crate) log: Log<'a, R>,
+    /// What is noted for the log, if it is kept.
+    pub(crate) notes: Option<Notes<'a, R>>,
     workers: Workers,
 }
 
@@ -147,6 +139,10 @@ fn server_from<'a, R: Files<File = File> + Eprint>(
     start: Instant,
 ) -> Result<Server<'a, R>, AllocError> {
     let (files, channels) = (&config.files, config.hosted.channels());
+    let notes = match files.log {
+        Some(_) => Some(Notes::new(rt, alloc, channels)?),
+        None => None,
+    };
     Ok(Server {
         rt,
         alloc,
@@ -154,6 +150,7 @@ fn server_from<'a, R: Files<File = File> + Eprint>(
         records: Records::open(rt, alloc, files.records.as_ref(), channels)?,
         log: Log::open(rt, alloc, files.log.as_ref())?,
         numbers: Numbers::new(rt, alloc, start, channels)?,
+        notes,
         workers: config.workers,
     })
 }
@@ -343,7 +340,7 @@ impl<
         served
     }
 
-    /// Keeps the time, and serves the status port, if there is one.
+    /// Keeps the time and the log, and serves the status port, if there is one.
     fn watch_over<
         L: Ledgers + Send + Sync,
         C: Clock + Sync,
@@ -354,9 +351,21 @@ impl<
     >(&self, service: &Service<'_, L, C, G, K, D, B, R>, status: &mut Option<StatusPort<'_, R>>) {
         let _ended = thread::join(
             self.rt,
-            || self.keep_time(service),
             || serve_status(status, &self.numbers),
+            || self.keep(service),
         );
+    }
+
+    /// Keeps the time and, by a thread of its own, the log: a disk that stands still doesn't stop the time.
+    fn keep<
+        L: Ledgers + Send + Sync,
+        C: Clock + Sync,
+        G: Gate + Sync,
+        K: Sink + Sync,
+        D: Disk + Send,
+        B: Bell + Sync,
+    >(&self, service: &Service<'_, L, C, G, K, D, B, R>) {
+        let _ended = thread::join(self.rt, || self.keep_log(), || self.keep_time(service));
     }
 
     /// Serves those who connect at the two listeners. Returns the passes of those who serve players, and of those who serve publishers,
@@ -416,10 +425,10 @@ impl<
         service: &Service<'_, L, C, G, K, D, B, R>,
         listener: &mut Listener<'_, R>,
     ) -> Served<L> {
-        let workers = self.workers.count;
+        let (notes, workers) = (self.notes.as_ref(), self.workers.count);
         self.report(
             "publishers",
-            serve_links(service, Role::Publisher, listener, workers),
+            serve_links(service, notes, Role::Publisher, listener, workers),
         )
     }
 
@@ -435,94 +444,6 @@ impl<
                 let _ = eprintln!(self.rt; "llhls: {whose} are not served: {fault}");
                 (passes, Some(fault))
             }
-        }
-    }
-
-    /// Passes the channels the time, again and again. Hands out their records and writes their numbers now and then, if these are kept.
-    fn keep_time<L: Ledgers, C, G, K: Sink, D: Disk, B: Bell>(
-        &self,
-        service: &Service<'_, L, C, G, K, D, B, R>,
-    ) {
-        for _ in self.rt.forever() {
-            for _ in 0..ROUNDS {
-                self.tick(service);
-                self.hand_out(service);
-            }
-            self.write_numbers();
-        }
-    }
-
-    /// Writes the numbers of all channels, if they are kept. Leaves them out if out of memory.
-    fn write_numbers(&self) {
-        let Some(time) = self.time() else {
-            return;
-        };
-        if let Ok(lines) = self.numbers.lines(self.alloc, time) {
-            self.log.add(lines.as_str());
-        }
-    }
-
-    /// Returns the time of day, or `None` if no numbers are kept or the clock can't be read.
-    fn time(&self) -> Option<UtcTime> {
-        if !self.log.is_kept() {
-            return None;
-        }
-        let now = SystemTime::now(self.rt).ok()?;
-        let since = now.duration_since(UNIX_EPOCH).ok()?;
-        UtcTime::at(since.as_millis().min(u64::MAX as u128) as u64)
-    }
-
-    /// Passes the channels the time as often as that is done between two hand-outs of the records.
-    fn tick<L: Ledgers, C, G, K: Sink, D: Disk, B: Bell>(
-        &self,
-        service: &Service<'_, L, C, G, K, D, B, R>,
-    ) {
-        for _ in 0..TICKS {
-            self.tell(service);
-            thread::sleep(self.rt, Duration::from_millis(TICK));
-        }
-    }
-
-    /// Passes the channels the time once. If one refuses it, because its record is full or it is out of memory, hands out its record and
-    /// passes it the time again; if it refuses again, goes on with those after it.
-    fn tell<L: Ledgers, C, G, K: Sink, D: Disk, B: Bell>(
-        &self,
-        service: &Service<'_, L, C, G, K, D, B, R>,
-    ) {
-        let (hub, ms) = (service.hub, self.watch.now());
-        let (mut bell, mut past) = (*service.bell, hub.past());
-        let (mut first, mut again) = (0, None);
-        for _ in 0..2 * CHANNELS {
-            let told = hub.tick_from(self.rt, &mut bell, &mut past, first, ms);
-            let Err(HubFault::Room { channel, .. }) = told else {
-                return;
-            };
-            let mut sink = *service.sink;
-            let is_first = again != Some(channel);
-            if is_first
-                && hub
-                    .rotate_to(self.rt, &mut past, channel, &mut sink)
-                    .is_ok()
-            {
-                again = Some(channel);
-                first = channel;
-            } else {
-                first = channel.saturating_add(1);
-            }
-        }
-    }
-
-    /// Hands out the record of each channel, if records are kept.
-    fn hand_out<L: Ledgers, C, G, K: Sink, D: Disk, B>(
-        &self,
-        service: &Service<'_, L, C, G, K, D, B, R>,
-    ) {
-        let mut past = service.hub.past();
-        for channel in 0..self.records.len() {
-            let mut sink = *service.sink;
-            let _ = service
-                .hub
-                .rotate_to(self.rt, &mut past, channel, &mut sink);
         }
     }
 }
