@@ -31,7 +31,7 @@ SAYS = re.compile(r'- - left-out lines=[1-9][0-9]*|[1-9][0-9]* (unix|-|[0-9.]+:[
                   r'(connected|let-in channel=[a-z0-9_-]+|refused channel=[a-z0-9_-]+ reason=[A-Za-z]+|ended channel=[a-z0-9_-]+ items=[0-9]+ bytes=[0-9]+ reason=[A-Z][a-z]+)')
 SECRET = 'a!~"0123456789'
 EACH = 10       # lines a second
-MANY = 100      # connections in a second
+MANY = 100      # connections at once
 
 
 def has_numbers(path):
@@ -205,16 +205,15 @@ def ends_amid_a_line(room):
 
 
 def many_in_a_second(room):
-    """Of a hundred publishers that come and go in a second the log has ten lines a second, and says how many were left out; so it does if they go on to come."""
+    """Of a hundred publishers that come and go at once the log has ten lines a second, and says how many were left out; so it does if they go on to come."""
     log = room.folder / 'log'
     room.serve(f'log {log}', CAM, workers=16)
     start = time.monotonic()
     for _ in range(MANY):
         room.publisher().close()
-    took = time.monotonic() - start
-    check(took < 1, f'they took {took:.3f} s')
     room.comes(is_whole_file, log, 2 * MANY)
-    check(left_out_in(notes(log.read_text())) >= 2 * MANY - 3 * EACH, 'it has left out too few')
+    seconds = int(time.monotonic() - start) + 2
+    check(left_out_in(notes(log.read_text())) >= 2 * MANY - seconds * EACH, 'it has left out too few')
     count = MANY
     while time.monotonic() < start + 5:
         room.publisher().close()
