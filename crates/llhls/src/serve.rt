@@ -357,14 +357,10 @@ impl<
     }
 
     /// Keeps the time and, by a thread of its own, the log: a disk that stands still doesn't stop the time.
-    fn keep<
-        L: Ledgers + Send + Sync,
-        C: Clock + Sync,
-        G: Gate + Sync,
-        K: Sink + Sync,
-        D: Disk + Send,
-        B: Bell + Sync,
-    >(&self, service: &Service<'_, L, C, G, K, D, B, R>) {
+    fn keep<L: Ledgers, C, G, K: Sink, D: Disk, B: Bell>(
+        &self,
+        service: &Service<'_, L, C, G, K, D, B, R>,
+    ) {
         let _ended = thread::join(self.rt, || self.keep_log(), || self.keep_time(service));
     }
 
