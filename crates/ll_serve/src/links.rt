@@ -266,7 +266,10 @@ fn serve_counted<
 fn with_gate<'a, L: Ledgers, C, G, H, K, D, B, R>(
     service: &Service<'a, L, C, G, K, D, B, R>,
     gate: &'a H,
-) -> Service<'a, L, C, H, K, D, B, R> {
+) -> Service<'a, L, C, H, K, D, B, R>
+    ensures hub { result.hub.now ≡ service.now.hub.now }
+    ensures secrets { result.secrets.now ≡ service.now.secrets.now }
+{
     Service {
         rt: service.rt,
         alloc: service.alloc,
