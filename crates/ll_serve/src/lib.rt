@@ -6,10 +6,13 @@ mod links;
 mod player;
 mod players;
 mod poller;
+mod serve;
 
 pub use bells::Bells;
 pub use links::serve_links;
 pub use ll_device::{Link, Role, Source, TryLink};
-pub use ll_link::{Bell, Gate, LinkFault, Service, serve_link, serve_link_within};
+pub use ll_hub::Bell;
 pub use ll_notes::{Addressed, Notes};
+pub use ll_service::{Gate, LinkFault, Service};
 pub use players::serve_players;
+pub use serve::{serve_link, serve_link_within};

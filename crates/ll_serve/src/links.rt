@@ -4,11 +4,12 @@ ghost use Rattle.std.specs.Prelude.{◌≡◌, ◌<◌, ◌≤◌, ◌++◌, ◌
 ghost use Rattle.std.specs.List.{All};
 ghost use Rattle.ll_hub.specs.Passes.{new_pass};
 
+use crate::serve::serve_link;
 use crossbeam_channel::{Receiver, Sender};
 use ll_device::{CountedLink, Link, Role, Source};
 use ll_hub::{Bell, Clock, Hub, HubFault, Ledgers, Pass, Sink};
-use ll_link::{Gate, LinkFault, Service, serve_link};
 use ll_notes::{Addressed, Ending, NotedGate, Notes};
+use ll_service::{Gate, LinkFault, Service};
 use ll_spool::Disk;
 use std::alloc::Global;
 use std::marker::Brand;

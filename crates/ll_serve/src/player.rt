@@ -1,7 +1,8 @@
 //! A player of a poller: its connection, and what was reported of it.
 use ll_device::TryLink;
 use ll_hub::Ledgers;
-use ll_link::{Connection, Gate};
+use ll_player::Connection;
+use ll_service::Gate;
 use std::sync::Wait;
 
 /// A player's connection in a poller.

@@ -9,7 +9,7 @@ use crate::links::seats;
 use crate::poller::Poller;
 use ll_device::{Source, TryLink};
 use ll_hub::{Bell, Clock, HubFault, Ledgers, Pass, Sink};
-use ll_link::{Gate, Service};
+use ll_service::{Gate, Service};
 use std::alloc::{AllocError, Global};
 use std::slice::IterMut;
 use std::sync::atomic::{AtomicBool, AtomicUsize, Ordering};

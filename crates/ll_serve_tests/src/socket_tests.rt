@@ -4,7 +4,7 @@ ghost use Rattle.std.specs.Prelude.{◌≡◌};
 use crate::hubs::{finished, hub_of_one};
 use crate::media_tests::{GETS, GOT, LINES, TAKEN};
 use crate::rows::same;
-use crate::wires::{ANSWER, GET, LINE, service, text_of};
+use crate::wires::{ANSWER, GET, LINE, no_notes, service, text_of};
 use ll_device::{Listener, Place, Socket};
 use ll_hub::{Blanks, Hub, Ledgers, Pass};
 use ll_serve::{Role, Source, serve_links};
@@ -122,10 +122,17 @@ fn talk<R: Net<Listener = TcpListener, Stream = TcpStream> + Abort>(
 
 /// Serves those who come in by `listener` with one worker. Returns the passes that come back.
 fn admit<
+    'a,
     L: Ledgers + Send + Sync,
     R: Net<Listener = TcpListener, Stream = TcpStream> + Threads + Wait + Clock + Eprint + Sync,
->(rt: &R, alloc: Global, hub: &Hub<L>, role: Role, listener: &mut Few<'_, R>) -> Vec<Pass<L>> {
-    match serve_links(&service(rt, alloc, hub), None, role, listener, 1) {
+>(
+    rt: &'a R,
+    alloc: Global,
+    hub: &'a Hub<L>,
+    role: Role,
+    listener: &mut Few<'_, R>,
+) -> Vec<Pass<L>> {
+    match serve_links(&service(rt, alloc, hub), no_notes(rt), role, listener, 1) {
         Ok(passes) => passes,
         Err((passes, _fault)) => passes,
     }

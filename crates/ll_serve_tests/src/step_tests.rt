@@ -11,7 +11,7 @@ use crate::media_tests::{GETS, LINES};
 use crate::rows::{Row, push, same};
 use crate::wires::{Dropped, GET, NoFiles, Open, Plan, SOUND, Wire, no_spools, service, text_of};
 use ll_hub::{Blanks, Hub, Ledgers, Pass};
-use ll_link::{Connection, Step};
+use ll_player::{Connection, Step};
 use ll_serve::{LinkFault, Role, Service, serve_link};
 use std::alloc::Global;
 use std::fmt::Write;

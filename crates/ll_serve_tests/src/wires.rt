@@ -6,7 +6,7 @@ use ll_device::{Failed, Writer};
 use ll_hub::{Hub, Ledgers, Sink};
 use ll_layout::{Place, Side};
 use ll_record::Chunk;
-use ll_serve::{Gate, Link, Service};
+use ll_serve::{Gate, Link, Notes, Service};
 use ll_spool::{Disk, Lost, Spool};
 use std::alloc::{AllocError, Global};
 use std::str;
@@ -91,6 +91,11 @@ impl Disk for NoFiles {
 /// Returns no spools.
 pub(crate) fn no_spools<'a>() -> &'a [Mutex<Spool<NoFiles>>] {
     &[]
+}
+
+/// Returns no notes: nothing takes note of a connection.
+pub(crate) fn no_notes<'a, R>(_rt: &'a R) -> Option<&'a Notes<'a, R>> {
+    None
 }
 
 /// Returns a service of `hub` whose clock shows 0, whose gate is open, whose sink drops its chunks, and whose bell nobody hears.

@@ -5,7 +5,7 @@ use crate::hubs::{
     SEGMENT, Silent, Stopped, add_one, comes_to, finished, hub_of_one, published, seat,
 };
 use crate::rows::{same, same_number};
-use crate::wires::{ANSWER, Dropped, GET, Open, no_spools, text_of};
+use crate::wires::{ANSWER, Dropped, GET, Open, no_notes, no_spools, text_of};
 use ll_device::{Failed, Writer};
 use ll_hub::{Blanks, Hub, Ledgers, Pass};
 use ll_serve::{Addressed, Gate, Link, Role, Service, Source, serve_links};
@@ -138,14 +138,14 @@ impl Gate for Latch {
 }
 
 /// Serves a connection for each box, `at_a_time` of them at once, with `workers` workers. Returns the workers' passes.
-fn serve_boxes<L: Ledgers + Send + Sync, G: Gate + Sync, R: Threads + Wait + Clock + Sync>(
-    rt: &R,
+fn serve_boxes<'a, L: Ledgers + Send + Sync, G: Gate + Sync, R: Threads + Wait + Clock + Sync>(
+    rt: &'a R,
     alloc: Global,
-    hub: &Hub<L>,
+    hub: &'a Hub<L>,
     workers: usize,
-    gate: &G,
-    boxes: &[Mutex<Vec<u8>>],
-    writes: &AtomicU64,
+    gate: &'a G,
+    boxes: &'a [Mutex<Vec<u8>>],
+    writes: &'a AtomicU64,
     at_a_time: u64,
 ) -> Vec<Pass<L>>
     requires some { 1 ≤ workers }
@@ -169,7 +169,7 @@ fn serve_boxes<L: Ledgers + Send + Sync, G: Gate + Sync, R: Threads + Wait + Clo
         spools: no_spools(),
         secrets: &[],
     };
-    match serve_links(&service, None, Role::Player, &mut peers, workers) {
+    match serve_links(&service, no_notes(rt), Role::Player, &mut peers, workers) {
         Ok(passes) => passes,
         Err((passes, _fault)) => passes,
     }

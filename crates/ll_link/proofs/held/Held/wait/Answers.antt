@@ -1,8 +1,0 @@
--- What the hub says of the claim holds of the answer.
-use Rattle.ll_link.proofs.held.Held.wait.Goals as goal
-
-pub returns-clause-answer : goal.returns-clause-answer
-returns-clause-answer g c = c.after.ensures.answer c.args.self.claim c.args.pass.now c.wait_within-waited.new.pass c.wait_within-waited.ensures.waited
-
-pub returns-clause-still : goal.returns-clause-still
-returns-clause-still g c = c.after.ensures.still c.args.self.claim c.args.pass.now c.wait_within-waited.new.pass c.wait_within-waited.ensures.waited

@@ -1,0 +1,10 @@
+pub mod AskLemmas
+pub mod ConversationLemmas
+pub mod CutLemmas
+pub mod GoLemmas
+pub mod LeftLemmas
+pub mod PlayLemmas
+pub mod SendLemmas
+pub mod SessionLemmas
+pub mod StepLemmas
+pub mod TurnLemmas

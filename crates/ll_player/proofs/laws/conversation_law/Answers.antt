@@ -1,0 +1,9 @@
+-- What was sent.
+use Rattle.ll_player.proofs.ConversationLemmas.{begins-to-converse, converses}
+use Rattle.ll_player.proofs.laws.conversation_law.Goals as goal
+
+pub returns-clause-whole : goal.returns-clause-whole
+returns-clause-whole g c = converses _
+
+pub returns-clause-prefix : goal.returns-clause-prefix
+returns-clause-prefix g c = begins-to-converse _

@@ -1,0 +1,3 @@
+pub mod FaultLemmas
+pub mod ReadLemmas
+pub mod SeenLemmas
