@@ -12,6 +12,9 @@ def fault(edit, crate):
     text = old = None
     for line in edit.read_text().splitlines():
         word, _, rest = line.partition(": ")
+        if line.startswith("# "):
+            # (a comment, such as which clause refuses it)
+            continue
         if word == "file":
             path = root / "crates" / crate / rest
             if not path.is_file():
