@@ -13,12 +13,23 @@ use std::marker::Model;
 use std::sync::ArcStr;
 
 /// The text of a playlist and the view that it was written of, both shared. By its invariant the text is always that of the view.
-#[derive(Drop)]
 pub struct Page {
     text: ArcStr,
     shown: Shown,
     rendition: usize,
     form: Option<SkipKind>,
+}
+
+/// Crates that drop a page prove nothing of what is in it.
+impl Drop for Page {
+    fn drop(self) {
+        let Page {
+            text: _text,
+            shown: _shown,
+            rendition: _,
+            form: _,
+        } = self;
+    }
 }
 
 impl Model for Page {

@@ -18,10 +18,19 @@ use std::sync::Arc;
 
 /// The lines of the last segments of a window, written once: one piece for each finished segment, and one for the open segment if there
 /// is one. Pieces of later views share those of segments that stay the same.
-#[derive(Drop)]
 pub struct Pieces {
     finished: Vec<Arc<Piece>>,
     unfinished: Option<Arc<Piece>>,
+}
+
+/// Crates that drop these prove nothing of what is in them.
+impl Drop for Pieces {
+    fn drop(self) {
+        let Pieces {
+            finished: _finished,
+            unfinished: _unfinished,
+        } = self;
+    }
 }
 
 impl Model for Pieces {

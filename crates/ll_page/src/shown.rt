@@ -15,7 +15,6 @@ use std::marker::Model;
 use std::sync::Arc;
 
 /// A channel at one moment: its settings, what is kept of each of its renditions, and how many items it has accepted. Pages share it.
-#[derive(Drop)]
 pub struct Shown {
     kept: Arc<ChannelMoment>,
 }
@@ -36,6 +35,13 @@ impl Model for ChannelMoment {
     ghost Value = { Moment };
 
     ghost view = { λ k. record { settings = arc_value k.settings; renditions = k.renditions.items; count = k.count } };
+}
+
+/// Crates that drop a channel prove nothing of what is in it.
+impl Drop for Shown {
+    fn drop(self) {
+        let Shown { kept: _kept } = self;
+    }
 }
 
 impl Model for Shown {

@@ -8,7 +8,6 @@ use std::alloc::{AllocError, Global};
 use std::marker::Model;
 
 /// The pages of one rendition at one moment. The text of each form is written once, when it is first asked for; after that its page is shared.
-#[derive(Drop)]
 pub struct Pages {
     shown: Shown,
     rendition: usize,
@@ -17,6 +16,20 @@ pub struct Pages {
     full: Option<Page>,
     delta: Option<Page>,
     delta_v2: Option<Page>,
+}
+
+/// Crates that drop these prove nothing of what is in them.
+impl Drop for Pages {
+    fn drop(self) {
+        let Pages {
+            shown: _shown,
+            rendition: _,
+            pieces: _pieces,
+            full: _full,
+            delta: _delta,
+            delta_v2: _delta_v2,
+        } = self;
+    }
 }
 
 impl Model for Pages {
@@ -60,7 +73,15 @@ impl Pages {
 
     /// Returns what was rendered for these pages, for those of a later moment.
     pub fn into_pieces(self) -> Pieces {
-        self.pieces
+        let Pages {
+            shown: _shown,
+            rendition: _,
+            pieces,
+            full: _full,
+            delta: _delta,
+            delta_v2: _delta_v2,
+        } = self;
+        pieces
     }
 
     /// Returns the index of the rendition.

@@ -50,12 +50,23 @@ pub struct DateRange<'a> {
 
 /// The date ranges of one rendition: those that are listed, in order of adding, and the recent removals, in order of removal.
 /// A removal is recent while the parts after it last no longer than the Skip Boundary (section 4.4.5.2).
-#[derive(Debug, Drop)]
+#[derive(Debug)]
 pub struct Ranges {
     pub(crate) limit: u64,
     pub(crate) listed: ListedRanges,
     /// The ids of the recent removals, each with the duration of all parts before the removal, in microseconds.
     pub(crate) recent: IndexMap<String, u64>,
+}
+
+/// Crates that drop these prove nothing of what is in them.
+impl Drop for Ranges {
+    fn drop(self) {
+        let Ranges {
+            limit: _,
+            listed: _listed,
+            recent: _recent,
+        } = self;
+    }
 }
 
 impl Model for Ranges {

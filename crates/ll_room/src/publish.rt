@@ -169,9 +169,20 @@ impl Room {
     {
         let rendition = item.rendition();
         let part = self.part_of(&item)?;
+        let shown = self.shown_with(item)?;
+        self.find_holders(rendition, shown, part, first, second)
+    }
+
+    /// Returns the channel with `item`, which no rule refuses.
+    fn shown_with(&self, item: Item) -> Result<Shown, AllocError>
+        requires { refusal_by self.now item ≡ None }
+        ensures goes_on { IfOk result (λ shown. GoOn self.now.renditions shown.renditions item) }
+        ensures many { IfOk result (λ shown. length shown.renditions ≡ length self.now.renditions) }
+        ensures shown { IfOk result (λ shown. shown ≡ record { settings = self.now.settings; renditions = shown.renditions; count = self.now.count + 1 }) }
+    {
         let mut shown = self.shown.again()?;
         shown.accept(item)?;
-        self.find_holders(rendition, shown, part, first, second)
+        Ok(shown)
     }
 
     /// Returns the part that `item` is, with another handle of its bytes, or `None` if it is no part.
@@ -201,16 +212,25 @@ impl Room {
         ensures first { IfOk result (λ x. HasHolders (supply_in x) first self.now.slots x.first) }
         ensures second { IfOk result (λ x. HasHolders (supply_in x) second self.now.slots x.second) }
     {
-        let mut pages = Pages::new(self.alloc, shown.again()?, rendition).unwrap();
-        let (first, second) = self.holders_for_both(first, second, &mut pages, &part)?;
+        let mut pages = self.pages_of(&shown, rendition)?;
+        let (first, second) = self.holders_for_both(first, second, &mut pages[0], &part)?;
         Ok(Coming {
             rendition,
             shown,
-            pages: vec![in self.alloc; pages]?,
+            pages,
             part,
             first,
             second,
         })
+    }
+
+    /// Returns the pages of `rendition` in the channel `shown`, alone in a list.
+    fn pages_of(&self, shown: &Shown, rendition: usize) -> Result<Vec<Pages>, AllocError>
+        requires { rendition < length shown.now.renditions }
+        ensures { IfOk result (λ pages. pages.items ≡ record { moment = shown.now; rendition = rendition } ∷ []) }
+    {
+        let pages = Pages::new(self.alloc, shown.again()?, rendition).unwrap();
+        Ok(vec![in self.alloc; pages]?)
     }
 
     /// Makes the replies of two releases, each `None` if there is no such release.

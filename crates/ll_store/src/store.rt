@@ -22,7 +22,6 @@ const SIZE_END: u64 = 1 << 63;
 
 /// The bytes that are kept of a rendition: those of the segments of the window and of the open one, and the Media Initialization Sections that are in
 /// force at one of these or have the map number of one announced now. What leaves the window is dropped.
-#[derive(Drop)]
 pub struct Store {
     alloc: Global,
     pub(crate) window: VecDeque<SegmentMedia>,
@@ -30,6 +29,19 @@ pub struct Store {
     /// The number of bytes of the open segment.
     unfinished_size: u64,
     pub(crate) sections: Vec<Section>,
+}
+
+/// Crates that drop a store prove nothing of what is in it.
+impl Drop for Store {
+    fn drop(self) {
+        let Store {
+            alloc: _,
+            window: _window,
+            unfinished: _unfinished,
+            unfinished_size: _,
+            sections: _sections,
+        } = self;
+    }
 }
 
 impl Model for Store {

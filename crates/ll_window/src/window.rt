@@ -32,13 +32,25 @@ const LAST_MICRO: u64 = 253_402_300_799_999_999;
 
 /// What is kept of the segments and parts of one rendition: the finished segments that a full playlist shows, and the parts of
 /// the open one. A segment leaves once those after it last at least as long as the settings say (section 6.2.2).
-#[derive(Debug, Drop)]
+#[derive(Debug)]
 pub struct Window {
     alloc: Global,
     settings: Arc<Settings>,
     finished: Finished,
     open_parts: Vec<Part>,
     progress: Progress,
+}
+
+impl Drop for Window {
+    fn drop(self) {
+        let Window {
+            alloc: _,
+            settings: _settings,
+            finished: _finished,
+            open_parts: _open_parts,
+            progress: _,
+        } = self;
+    }
 }
 
 impl Model for Window {
@@ -99,11 +111,8 @@ impl Window {
     }
 
     /// Adds the next item of the rendition. Which rendition `item` names isn't looked at. An initialization section, a date range and
-    /// a removal change nothing here, and are refused only after the end.
-    ///
-    /// # Errors
-    ///
-    /// `Refused` with the first rule that refuses the item, else `Memory`. Nothing changes then.
+    /// a removal change nothing here, and are refused only after the end. Fails with `Refused` and the first rule that refuses the item,
+    /// or with `Memory`. Nothing changes then.
     pub fn push(&mut self, item: Item) -> Result<(), PushError>
         ensures accepted { (items : List Item) → self.old ≡ compact self.old.settings items
             → OnOk result ((refusal self.old.settings items item ≡ None)
@@ -192,8 +201,7 @@ impl Window {
         self.progress.map_number(self.open_parts.as_slice())
     }
 
-    /// Returns the number of the Media Initialization Section in force at the first segment that a full playlist shows, finished or open; if it
-    /// shows none, at the next segment.
+    /// Returns the number of the Media Initialization Section in force at the first segment that a full playlist shows, or if none, at the next one.
     pub fn first_map_number(&self) -> u64
         ensures { result ≡ first_map self.now }
     {
@@ -218,8 +226,7 @@ impl Window {
         self.finished.discontinuity
     }
 
-    /// Returns how many segments of the window a delta update skips: those after which the segments and the open parts
-    /// last longer than the Skip Boundary (section 6.2.5.1).
+    /// Returns how many segments of the window a delta update skips: those with more than the Skip Boundary after them (section 6.2.5.1).
     pub fn skip_count(&self) -> usize
         ensures { result ≡ kept.skip_count self.now }
     {
@@ -482,8 +489,7 @@ impl Window {
         }
     }
 
-    /// Drops the parts that playlists no longer list: those of segments after which the parts last at least three target durations
-    /// (section 4.4.4.9).
+    /// Drops the parts that playlists no longer list: those with three target durations or more of parts after their segment (section 4.4.4.9).
     fn hide(&mut self)
         ensures { self.new ≡ relisted self.old }
     {
