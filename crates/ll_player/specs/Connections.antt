@@ -1,5 +1,5 @@
 -- A player's connection between its steps.
-use Rattle.std.specs.Prelude.{◌≡◌, ℕ, List, Option, IfSome, Some, None, option_map}
+use Rattle.std.specs.Prelude.{◌≡◌, ◌≢◌, ◌⊎◌, ℕ, Bool, true, false, List, [], Option, IfSome, IsSome, Some, None, option_map}
 use mathlib.Core.List.{IsPrefix}
 use Rattle.ll_device.specs.Inward.{Inward}
 use Rattle.ll_hub.specs.Claim.{ClaimValue}
@@ -7,6 +7,9 @@ use Rattle.ll_hub.specs.Passes.{PassValue}
 use Rattle.ll_player.specs.Asking.{IsReplyTo}
 use Rattle.ll_player.specs.Playing.{Moment, moment}
 use Rattle.ll_player.specs.Steps.{BreaksOff, GoesOn}
+use Rattle.ll_player.specs.declared.connection.Step.{Step}
+use Rattle.ll_player.specs.declared.connection.Step.TheVariants as step
+use Rattle.ll_session.specs.Requests.{requests}
 use Rattle.ll_session.specs.Talk.{SessionValue, replied}
 use Rattle.ll_settings.specs.Settings.{Configuration}
 use Rattle.ll_wire.specs.declared.answer.Answer.{Answer}
@@ -49,3 +52,15 @@ pub record Steps (shows : ℕ → Type 0) (hub : List Configuration) (seen now :
 -- a step that cuts it short
 abbrev pub Fails : (ℕ → Type 0) → List Configuration → (seen now : PassValue) → (old new : ConnectionValue) → Type 0
 Fails shows hub seen now old new = BreaksOff shows hub (moment_of old seen) new.inward new.written now
+
+-- what a connection waits for: the reply to its request that is held; else its link, if answers are left; else it is over, if its session has shut; else
+-- more bytes
+pub data WaitsFor (c : ConnectionValue) (s : Step) : Type 0 where
+  Reply : IsSome c.claim → s ≡ step.Held → WaitsFor c s
+  Link : c.claim ≡ None → c.session.answers ≢ [] → s ≡ step.Unsent → WaitsFor c s
+  Nothing : c.claim ≡ None → c.session.answers ≡ [] → c.session.shut ≡ true → s ≡ step.Over → WaitsFor c s
+  Bytes : c.claim ≡ None → c.session.answers ≡ [] → c.session.shut ≡ false → (s ≡ step.Idle) ⊎ (s ≡ step.More) → WaitsFor c s
+
+-- one that waits for bytes has no whole request left
+abbrev pub IsCaughtUp : ConnectionValue → Type 0
+IsCaughtUp c = c.claim ≡ None → c.session.answers ≡ [] → c.session.shut ≡ false → c.session.out ≡ None → requests c.session.unread ≡ []

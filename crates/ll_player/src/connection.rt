@@ -1,7 +1,7 @@
 //! A player's connection that takes no thread while it waits: it is served in steps, none of which waits for its link or for a reply.
-ghost use Rattle.std.specs.Prelude.{◌≡◌, ◌≢◌, ◌⊎◌, [], IfErr, IfOk, IfSome, None, OnErr, OnOk, Some, false, true};
+ghost use Rattle.std.specs.Prelude.{◌≡◌, ◌≢◌, ◌⊎◌, [], IfErr, IfOk, IfSome, IsSome, MatchOption, None, OnErr, OnOk, Some, false, true};
 ghost use Rattle.ll_device.specs.Inward.{looked_at};
-ghost use Rattle.ll_player.specs.Connections.{Fails, HasCollected, HasLost, IsOn, Steps};
+ghost use Rattle.ll_player.specs.Connections.{Fails, HasCollected, HasLost, IsCaughtUp, IsOn, Steps, WaitsFor};
 ghost use Rattle.ll_service.specs.Faults.{IsTrue};
 ghost use Rattle.ll_player.specs.Reading.{IsFed};
 ghost use Rattle.ll_service.specs.Reads.{HasEnded, IsReadOnce};
@@ -91,7 +91,9 @@ impl<'a, L: Ledgers, P: TryLink, G: Gate, R: Wait> Connection<'a, L, P, G, R> {
     }
 
     /// Returns the place of the channel of its request that is held, and the request's number there; `None` if none is held.
-    pub fn held(&self) -> Option<(usize, u64)> {
+    pub fn held(&self) -> Option<(usize, u64)>
+        ensures { MatchOption result (self.now.claim ≡ None) (λ held. IfSome self.now.claim (λ claim. (held.0 ≡ claim.0.channel) × (held.1 ≡ claim.0.entry.ticket))) }
+    {
         match &self.held {
             Some(held) => Some(held.place()),
             None => None,
@@ -99,7 +101,10 @@ impl<'a, L: Ledgers, P: TryLink, G: Gate, R: Wait> Connection<'a, L, P, G, R> {
     }
 
     /// Returns whether some of its answers are left to be sent.
-    pub fn has_unsent(&self) -> bool {
+    pub fn has_unsent(&self) -> bool
+        ensures some { result ≡ true → self.now.session.answers ≢ [] }
+        ensures none { result ≡ false → self.now.session.answers ≡ [] }
+    {
         self.talk.session.first_answer().is_some()
     }
 
@@ -126,6 +131,8 @@ impl<'a, L: Ledgers, P: TryLink, G: Gate, R: Wait> Connection<'a, L, P, G, R> {
         ensures faults { IsTrue result self.old.failures self.new.failures }
         ensures once { (self.new.inward ≡ self.old.inward) ⊎ IsReadOnce self.old.inward self.new.inward }
         ensures ended { IfOk result (λ step. step ≡ Step.Over → self.new.session.shut ≡ false → HasEnded self.old.inward self.new.inward) }
+        ensures waits { IfOk result (λ step. WaitsFor self.new step ⊎ ((step ≡ Step.Over) × HasEnded self.old.inward self.new.inward)) }
+        ensures caught_up { IfOk result (λ step. step ≢ Step.Over → IsCaughtUp self.new) }
         ensures other { IfErr result (λ fault. fault ≢ LinkFault.Endless) }
         ensures plays { IsOn service.now.hub.now self.old → OnOk result (Steps (C.shows service.now.clock.now) service.now.hub.now pass.old pass.new self.old self.new) }
         ensures fails { IsOn service.now.hub.now self.old → OnErr result (Fails (C.shows service.now.clock.now) service.now.hub.now pass.old pass.new self.old self.new) }
@@ -150,6 +157,8 @@ impl<'a, L: Ledgers, P: TryLink, G: Gate, R: Wait> Connection<'a, L, P, G, R> {
     ) -> Result<Step, LinkFault>
         ensures faults { IsTrue result self.old.failures self.new.failures }
         ensures unread { self.new.inward ≡ self.old.inward }
+        ensures waits { IfOk result (WaitsFor self.new) }
+        ensures caught_up { OnOk result (IsCaughtUp self.new) }
         ensures other { IfErr result (λ fault. fault ≢ LinkFault.Endless) }
         ensures plays { IsOn service.now.hub.now self.old → OnOk result (Steps (C.shows service.now.clock.now) service.now.hub.now pass.old pass.new self.old self.new) }
         ensures fails { IsOn service.now.hub.now self.old → OnErr result (Fails (C.shows service.now.clock.now) service.now.hub.now pass.old pass.new self.old self.new) }
@@ -179,6 +188,8 @@ impl<'a, L: Ledgers, P: TryLink, G: Gate, R: Wait> Connection<'a, L, P, G, R> {
     ) -> Result<Step, LinkFault>
         ensures faults { IsTrue result self.old.failures self.new.failures }
         ensures unread { self.new.inward ≡ self.old.inward }
+        ensures waits { IfOk result (WaitsFor self.new) }
+        ensures caught_up { OnOk result (IsSome self.old.claim → IsCaughtUp self.new) }
         ensures other { IfErr result (λ fault. fault ≢ LinkFault.Endless) }
         ensures plays { IsOn service.now.hub.now self.old → OnOk result (Steps (C.shows service.now.clock.now) service.now.hub.now pass.old pass.new self.old self.new) }
         ensures fails { IsOn service.now.hub.now self.old → OnErr result (Fails (C.shows service.now.clock.now) service.now.hub.now pass.old pass.new self.old self.new) }
@@ -223,6 +234,7 @@ impl<'a, L: Ledgers, P: TryLink, G: Gate, R: Wait> Connection<'a, L, P, G, R> {
         ensures faults { IsTrue result self.old.failures self.new.failures }
         ensures unread { self.new.inward ≡ self.old.inward }
         ensures other { IfErr result (λ fault. fault ≢ LinkFault.Endless) }
+        ensures caught_up { OnOk result (IsCaughtUp self.new) }
         ensures plays { self.old.claim ≡ None → OnOk result (Steps (C.shows service.now.clock.now) service.now.hub.now pass.old pass.new self.old self.new) }
         ensures fails { self.old.claim ≡ None → OnErr result (Fails (C.shows service.now.clock.now) service.now.hub.now pass.old pass.new self.old self.new) }
     {
@@ -234,7 +246,7 @@ impl<'a, L: Ledgers, P: TryLink, G: Gate, R: Wait> Connection<'a, L, P, G, R> {
 
     /// Returns what it waits for.
     fn step(&self) -> Step
-        ensures { result ≡ Step.Over → self.now.session.shut ≡ true }
+        ensures { WaitsFor self.now result }
     {
         if self.held.is_some() {
             Step::Held
