@@ -1,6 +1,8 @@
-//! Recorders, and the requests that are held at them.
+//! Recorders, what happens to them, and the requests that are held at them.
+use ll_directive::{Want, read_target};
+use ll_item::{Item, Payload};
 use ll_record::Recorder;
-use ll_room::{Parked, Stored};
+use ll_room::{Closed, Parked, Stored};
 use ll_settings::Settings;
 use std::alloc::Global;
 use std::process::Abort;
@@ -9,6 +11,25 @@ use std::process::Abort;
 pub(crate) fn recorder(rt: &impl Abort, alloc: Global, line: &str) -> Recorder {
     let settings = Settings::read(alloc, line).expect(rt, "settings");
     Recorder::new(alloc, 0, settings).expect(rt, "memory")
+}
+
+/// Reads the item of `line`, which has no bytes.
+pub(crate) fn item(rt: &impl Abort, alloc: Global, recorder: &Recorder, line: &str) -> Item {
+    let settings = recorder.room().settings();
+    Item::read(alloc, settings, line, &Payload::none()).expect(rt, "an item")
+}
+
+/// Reads what a request for `target` wants.
+pub(crate) fn want(rt: &impl Abort, alloc: Global, target: &str) -> Want {
+    read_target(alloc, target.as_bytes()).expect(rt, "a target")
+}
+
+/// Closes a request that is open at `recorder`.
+pub(crate) fn close(rt: &impl Abort, recorder: &mut Recorder, parked: Parked) {
+    match recorder.close(parked) {
+        Closed::Done => {}
+        Closed::Stranger(_parked) => panic!(rt; "it is held elsewhere"),
+    }
 }
 
 /// Keeps the value of a held request.

@@ -1,10 +1,8 @@
-//! Tests of records that are full.
-use crate::cases::{keep, recorder, spend};
-use ll_directive::read_target;
-use ll_item::{Item, Payload};
+//! A test of a record that is full.
+use crate::cases::{close, item, recorder, want};
 use ll_record::Recorder;
-use ll_room::{AskFault, Asked, Closed, Stored};
-use ll_verdict::{PublishFault, Reply};
+use ll_room::{AskFault, Asked};
+use ll_verdict::{ClockFault, PublishFault};
 use std::alloc::Global;
 use std::process::Abort;
 
@@ -14,61 +12,25 @@ const CHANNEL: &str =
 /// How many items, requests and readings a record can hold.
 const HELD: u64 = 65_536;
 
-/// Hands out the record, and returns how many entries it has.
-fn rotated(rt: &impl Abort, recorder: &mut Recorder) -> u64 {
-    recorder.rotate().expect(rt, "memory").entries()
+/// Publishes a part, and makes a request and a reading. Returns how many of them a full record refuses.
+fn refuses_each(rt: &impl Abort, alloc: Global, recorder: &mut Recorder) -> u64 {
+    let part = item(rt, alloc, recorder, "part hi 1000000 if");
+    let item = recorder.publish(part).err() == Some(PublishFault::RecordFull);
+    let request = refuses_request(rt, alloc, recorder);
+    let reading = recorder.clock(HELD) == Err(ClockFault::RecordFull);
+    u64::from(item) + u64::from(request) + u64::from(reading)
 }
 
-/// Publishes a part. Returns how many items the channel has accepted then.
-fn published(rt: &impl Abort, alloc: Global, recorder: &mut Recorder) -> Result<u64, PublishFault> {
-    let line = "part hi 1000000 if";
-    let item = Item::read(alloc, recorder.room().settings(), line, &Payload::none()).expect(
-        rt, "an item",
-    );
-    match recorder.publish(item) {
-        Ok(count) => Ok(*count.get()),
-        Err(fault) => Err(fault),
-    }
-}
-
-/// Makes a request for the first segment, and keeps its value if it is held. Returns its answer.
-fn asked(
-    rt: &impl Abort,
-    alloc: Global,
-    recorder: &mut Recorder,
-    kept: &mut Vec<Stored>,
-) -> Result<&'static str, AskFault> {
-    let target = "/cam/hi/live.m3u8?_HLS_msn=0";
-    let want = read_target(alloc, target.as_bytes()).expect(rt, "a target");
-    match recorder.ask(want) {
+/// Makes a request for the first segment. Returns whether a full record refuses it.
+fn refuses_request(rt: &impl Abort, alloc: Global, recorder: &mut Recorder) -> bool {
+    match recorder.ask(want(rt, alloc, "/cam/hi/live.m3u8?_HLS_msn=0")) {
         Ok(Asked::Held(parked)) => {
-            keep(rt, kept, parked);
-            Ok("Held")
+            close(rt, recorder, parked);
+            false
         }
-        Ok(Asked::Now(reply)) => match reply.get() {
-            Reply::Busy => Ok("Busy"),
-            _ => Ok("another reply"),
-        },
-        Err(fault) => Err(fault),
+        Ok(Asked::Now(_)) => false,
+        Err(fault) => fault == AskFault::RecordFull,
     }
-}
-
-/// Closes the request that was kept last.
-fn close_last(rt: &impl Abort, recorder: &mut Recorder, kept: &mut Vec<Stored>) {
-    if let Some(one) = kept.pop() {
-        match recorder.close(one.into_parked()) {
-            Closed::Done => {}
-            Closed::Stranger(_parked) => panic!(rt; "it is held elsewhere"),
-        }
-    }
-}
-
-/// Returns the results of an item, a request and a reading, in this order.
-fn each(rt: &impl Abort, alloc: Global, recorder: &mut Recorder, kept: &mut Vec<Stored>) -> String {
-    let item = published(rt, alloc, recorder);
-    let request = asked(rt, alloc, recorder, kept);
-    let reading = recorder.clock(HELD);
-    format!(in alloc; "{item:?} {request:?} {reading:?}").expect(rt, "memory")
 }
 
 /// Returns a recorder whose record is full of readings of the clock.
@@ -80,48 +42,14 @@ fn full_of_readings(rt: &impl Abort, alloc: Global) -> Recorder {
     recorder
 }
 
+/// A full record refuses items, requests and readings until it is handed out.
 #[test]
 fn full_record_refuses_until_handed_out(rt: HostRuntime) {
     let alloc = rt.alloc();
-    let mut kept = Vec::new(alloc);
     let mut recorder = full_of_readings(&rt, alloc);
-    let refused = each(&rt, alloc, &mut recorder, &mut kept);
-    let entries = rotated(&rt, &mut recorder);
-    let accepted = published(&rt, alloc, &mut recorder);
-    spend(&rt, kept, &recorder);
-    assert_eq!(rt;
-        (refused.as_str(), entries, accepted),
-        (
-            "Err(RecordFull) Err(RecordFull) Err(RecordFull)",
-            HELD,
-            Ok(1)
-        )
-    );
-}
-
-/// Returns a recorder whose record is full of requests that are held.
-fn full_of_requests(rt: &impl Abort, alloc: Global, kept: &mut Vec<Stored>) -> Recorder {
-    let mut recorder = recorder(rt, alloc, CHANNEL);
-    for _ in 0..HELD {
-        asked(rt, alloc, &mut recorder, kept).expect(rt, "the record isn't full");
-    }
-    recorder
-}
-
-/// A record holds as many requests as a channel can hold.
-#[test]
-fn full_record_of_held_requests(rt: HostRuntime) {
-    let alloc = rt.alloc();
-    let mut kept = Vec::new(alloc);
-    let mut recorder = full_of_requests(&rt, alloc, &mut kept);
-    let full = asked(&rt, alloc, &mut recorder, &mut kept);
-    let entries = rotated(&rt, &mut recorder);
-    let busy = asked(&rt, alloc, &mut recorder, &mut kept);
-    close_last(&rt, &mut recorder, &mut kept);
-    let held = asked(&rt, alloc, &mut recorder, &mut kept);
-    spend(&rt, kept, &crate::cases::recorder(&rt, alloc, CHANNEL));
-    assert_eq!(rt;
-        (full, entries, busy, held),
-        (Err(AskFault::RecordFull), HELD, Ok("Busy"), Ok("Held"))
-    );
+    let full = refuses_each(&rt, alloc, &mut recorder);
+    let entries = recorder.rotate().expect(&rt, "memory").entries();
+    let empty = refuses_each(&rt, alloc, &mut recorder);
+    let count = recorder.room().count();
+    assert!(rt; full == 3 && entries == HELD && empty == 0 && count == 1);
 }

@@ -1,18 +1,94 @@
 //! Random scripts of all that can happen to a recorded channel.
-use crate::cases::{keep, recorder, spend};
+use crate::cases::{close, item, keep, recorder, spend, want};
 use crate::dice::Dice;
 use ll_check::check;
-use ll_directive::read_target;
-use ll_item::{Item, Payload};
 use ll_record::Recorder;
-use ll_room::{Asked, Closed, Collected, Parked, Stored};
-use ll_verdict::Reply;
+use ll_room::{Asked, Collected, Parked, Stamped, Stored};
+use ll_verdict::{PublishFault, Reply};
 use std::alloc::{AllocError, Global};
 use std::process::Abort;
 
 /// The settings of a channel with segments so short that some leave the playlists during a script.
 const CHANNEL: &str =
     "channel cam target=1 part=1000000 skip=6 window=9 renditions=hi,lo first=0 start=0";
+
+/// What calls return, and the names of replies.
+const ANSWERS: [&str; 12] = [
+    "accepted",
+    "refused",
+    "answered",
+    "held",
+    "still",
+    "collected",
+    "closed",
+    "read",
+    "Text",
+    "NotFound",
+    "TooFar",
+    "Timeout",
+];
+
+/// The lines of items that are no parts. A date range without START-DATE is refused whatever came before.
+const ITEMS: [&str; 20] = [
+    "break hi",
+    "break hi",
+    "break hi",
+    "break lo",
+    "break lo",
+    "break lo",
+    "range hi ID=\"ad\",START-DATE=\"2024-05-01T10:00:00Z\"",
+    "range hi ID=\"ad\",START-DATE=\"2024-05-01T10:00:00Z\"",
+    "range hi ID=\"show\",START-DATE=\"2024-05-01T10:00:00Z\"",
+    "range lo ID=\"ad\",START-DATE=\"2024-05-01T10:00:00Z\"",
+    "range lo ID=\"show\",START-DATE=\"2024-05-01T10:00:00Z\"",
+    "range lo ID=\"show\",START-DATE=\"2024-05-01T10:00:00Z\"",
+    "range hi ID=\"ad\",DURATION=1.5",
+    "range lo ID=\"show\",DURATION=1.5",
+    "unrange hi ad",
+    "unrange hi show",
+    "unrange lo ad",
+    "unrange lo show",
+    "end hi",
+    "end lo",
+];
+
+/// The directives of requests that await a segment.
+const SEGMENTS: [&str; 6] = [
+    "_HLS_msn=0",
+    "_HLS_msn=1",
+    "_HLS_msn=2",
+    "_HLS_msn=3",
+    "_HLS_msn=4",
+    "_HLS_msn=5",
+];
+
+/// The directives of requests that await a part.
+const PARTS: [&str; 24] = [
+    "_HLS_msn=0&_HLS_part=0",
+    "_HLS_msn=0&_HLS_part=1",
+    "_HLS_msn=0&_HLS_part=2",
+    "_HLS_msn=0&_HLS_part=3",
+    "_HLS_msn=1&_HLS_part=0",
+    "_HLS_msn=1&_HLS_part=1",
+    "_HLS_msn=1&_HLS_part=2",
+    "_HLS_msn=1&_HLS_part=3",
+    "_HLS_msn=2&_HLS_part=0",
+    "_HLS_msn=2&_HLS_part=1",
+    "_HLS_msn=2&_HLS_part=2",
+    "_HLS_msn=2&_HLS_part=3",
+    "_HLS_msn=3&_HLS_part=0",
+    "_HLS_msn=3&_HLS_part=1",
+    "_HLS_msn=3&_HLS_part=2",
+    "_HLS_msn=3&_HLS_part=3",
+    "_HLS_msn=4&_HLS_part=0",
+    "_HLS_msn=4&_HLS_part=1",
+    "_HLS_msn=4&_HLS_part=2",
+    "_HLS_msn=4&_HLS_part=3",
+    "_HLS_msn=5&_HLS_part=0",
+    "_HLS_msn=5&_HLS_part=1",
+    "_HLS_msn=5&_HLS_part=2",
+    "_HLS_msn=5&_HLS_part=3",
+];
 
 /// When a script hands out the record.
 #[derive(Clone, Copy, PartialEq, Eq)]
@@ -38,7 +114,7 @@ pub(crate) struct Played {
     chunks: Vec<u8>,
     /// How many entries the chunks have.
     entries: u64,
-    /// The answer to each call, in a line or two of its own.
+    /// The answer to each call, in a line of its own; the name of a reply has another line after it.
     told: String,
     /// The playlists among the answers, one after another.
     pages: String,
@@ -47,7 +123,16 @@ pub(crate) struct Played {
 /// Plays the script of this `seed`.
 pub(crate) fn play(rt: &impl Abort, alloc: Global, seed: u64, chunks: Chunks) -> Played {
     let mut dice = Dice::new(seed);
-    let mut run = Run::new(rt, alloc);
+    let mut run = Run {
+        recorder: recorder(rt, alloc, CHANNEL),
+        kept: Vec::new(alloc),
+        played: Played {
+            chunks: Vec::new(alloc),
+            entries: 0,
+            told: String::new(alloc),
+            pages: String::new(alloc),
+        },
+    };
     for event in 1..40 + dice.roll(41) {
         run.step(rt, alloc, &mut dice, event, chunks);
     }
@@ -56,20 +141,6 @@ pub(crate) fn play(rt: &impl Abort, alloc: Global, seed: u64, chunks: Chunks) ->
 }
 
 impl Run {
-    /// Returns a run to which nothing has happened.
-    fn new(rt: &impl Abort, alloc: Global) -> Run {
-        Run {
-            recorder: recorder(rt, alloc, CHANNEL),
-            kept: Vec::new(alloc),
-            played: Played {
-                chunks: Vec::new(alloc),
-                entries: 0,
-                told: String::new(alloc),
-                pages: String::new(alloc),
-            },
-        }
-    }
-
     /// Makes one random call. The later it comes, the later a reading of the clock can be.
     fn step(
         &mut self,
@@ -83,8 +154,7 @@ impl Run {
             0..=6 => self.publish(rt, alloc, dice),
             7..=11 => self.ask(rt, alloc, dice),
             12 => self.clock(rt, dice.roll(event.saturating_mul(400).max(1))),
-            13..=15 => self.collect(rt, dice),
-            16 => self.close(rt, dice),
+            13..=16 => self.settle(rt, dice),
             _ => {
                 if chunks == Chunks::Many {
                     self.rotate(rt);
@@ -96,31 +166,21 @@ impl Run {
     /// Publishes an item.
     fn publish(&mut self, rt: &impl Abort, alloc: Global, dice: &mut Dice) {
         let line = item_line(alloc, dice).expect(rt, "memory");
-        let settings = self.recorder.room().settings();
-        let item = Item::read(alloc, settings, line.as_str(), &Payload::none()).expect(
-            rt, "an item",
-        );
-        let answer = match self.recorder.publish(item) {
-            Ok(count) => format!(in alloc; "accepted {}", count.get()),
-            Err(fault) => format!(in alloc; "refused {fault}"),
-        };
-        self.tell(rt, answer.expect(rt, "memory").as_str());
+        let item = item(rt, alloc, &self.recorder, line.as_str());
+        let told = told_publish(alloc, &self.recorder.publish(item)).expect(rt, "memory");
+        self.tell(rt, told.as_str());
     }
 
     /// Makes a request.
     fn ask(&mut self, rt: &impl Abort, alloc: Global, dice: &mut Dice) {
         let target = target(alloc, dice).expect(rt, "memory");
-        let want = read_target(alloc, target.as_bytes()).expect(rt, "a target");
-        match self.recorder.ask(want) {
-            Ok(Asked::Now(reply)) => {
-                self.tell(rt, "answered");
-                self.tell_reply(rt, reply.get());
-            }
-            Ok(Asked::Held(parked)) => {
+        let want = want(rt, alloc, target.as_str());
+        match self.recorder.ask(want).expect(rt, "an answer") {
+            Asked::Now(reply) => self.tell_reply(rt, "answered", reply.get()),
+            Asked::Held(parked) => {
                 keep(rt, &mut self.kept, parked);
                 self.tell(rt, "held");
             }
-            Err(fault) => panic!(rt; "{target}: {fault}"),
         }
     }
 
@@ -130,16 +190,26 @@ impl Run {
         self.tell(rt, "read");
     }
 
-    /// Asks for the reply to a request.
-    fn collect(&mut self, rt: &impl Abort, dice: &mut Dice) {
-        let Some(parked) = self.take(dice) else {
+    /// Asks for the reply to a request that is held, if there is one, or closes it.
+    fn settle(&mut self, rt: &impl Abort, dice: &mut Dice) {
+        let count = self.kept.len();
+        if count == 0 {
             return;
-        };
+        }
+        let place = dice.roll(count as u64) as usize;
+        let parked = self.kept.swap_remove(place).into_parked();
+        if dice.roll(4) == 0 {
+            close(rt, &mut self.recorder, parked);
+            self.tell(rt, "closed");
+        } else {
+            self.collect(rt, parked);
+        }
+    }
+
+    /// Asks for the reply to a request.
+    fn collect(&mut self, rt: &impl Abort, parked: Parked) {
         match self.recorder.collect(parked) {
-            Collected::Got(reply) => {
-                self.tell(rt, "collected");
-                self.tell_reply(rt, reply.get());
-            }
+            Collected::Got(reply) => self.tell_reply(rt, "collected", reply.get()),
             Collected::Still(parked) => {
                 keep(rt, &mut self.kept, parked);
                 self.tell(rt, "still");
@@ -148,43 +218,26 @@ impl Run {
         }
     }
 
-    /// Closes a request.
-    fn close(&mut self, rt: &impl Abort, dice: &mut Dice) {
-        let Some(parked) = self.take(dice) else {
-            return;
-        };
-        match self.recorder.close(parked) {
-            Closed::Done => self.tell(rt, "closed"),
-            Closed::Stranger(_parked) => panic!(rt; "it is held elsewhere"),
-        }
-    }
-
     /// Hands out the record.
     fn rotate(&mut self, rt: &impl Abort) {
         let chunk = self.recorder.rotate().expect(rt, "memory");
-        let chunks = &mut self.played.chunks;
-        chunks.extend_from_slice(chunk.bytes()).expect(rt, "memory");
-        self.played.entries = self.played.entries.saturating_add(chunk.entries());
+        let played = &mut self.played;
+        played
+            .chunks
+            .extend_from_slice(chunk.bytes())
+            .expect(rt, "memory");
+        played.entries = played.entries.saturating_add(chunk.entries());
     }
 
-    /// Takes one of the requests whose replies weren't collected.
-    fn take(&mut self, dice: &mut Dice) -> Option<Parked> {
-        let count = self.kept.len();
-        if count == 0 {
-            return None;
-        }
-        let place = dice.roll(count as u64) as usize;
-        Some(self.kept.swap_remove(place).into_parked())
-    }
-
-    /// Appends the answer to a call.
+    /// Appends a line of `text`.
     fn tell(&mut self, rt: &impl Abort, text: &str) {
         self.played.told.push_str(text).expect(rt, "memory");
         self.played.told.push('\n').expect(rt, "memory");
     }
 
-    /// Appends the name of a reply, and its playlist to those of the script.
-    fn tell_reply(&mut self, rt: &impl Abort, reply: &Reply) {
+    /// Appends the answer to a call and the name of its reply, and its playlist to those of the script.
+    fn tell_reply(&mut self, rt: &impl Abort, answer: &str, reply: &Reply) {
+        self.tell(rt, answer);
         self.tell(rt, reply.name());
         if let Reply::Text(page) = reply {
             self.played.pages.push_str(page.text()).expect(rt, "memory");
@@ -214,42 +267,48 @@ impl Played {
         self.told == other.told && self.pages == other.pages
     }
 
-    /// Returns how many calls got an answer that begins with `answer`.
-    pub(crate) fn count(&self, answer: &str) -> usize {
-        let lines = self.told.lines();
-        lines.filter(|line| line.starts_with(answer)).count()
+    /// Adds to `counts` how many lines begin with each of the answers.
+    pub(crate) fn count(&self, counts: &mut [u64; 12]) {
+        for (count, answer) in counts.iter_mut().zip(ANSWERS) {
+            let lines = self.told.lines().filter(|line| line.starts_with(answer));
+            *count = count.saturating_add(lines.count() as u64);
+        }
     }
 }
 
-/// Returns the line of a random item. A date range without START-DATE and a part of no duration are refused whatever came before.
+/// Returns the answer to an item.
+fn told_publish(
+    alloc: Global,
+    answer: &Result<Stamped<u64>, PublishFault>,
+) -> Result<String, AllocError> {
+    match answer {
+        Ok(count) => format!(in alloc; "accepted {}", count.get()),
+        Err(fault) => format!(in alloc; "refused {fault}"),
+    }
+}
+
+/// Returns the line of a random item.
 fn item_line(alloc: Global, dice: &mut Dice) -> Result<String, AllocError> {
-    let name = dice.pick(&["hi", "lo"]);
-    let id = dice.pick(&["ad", "show"]);
-    match dice.roll(40) {
-        0..=2 => format!(in alloc; "break {name}"),
-        3..=5 => format!(in alloc; "range {name} ID=\"{id}\",START-DATE=\"2024-05-01T10:00:00Z\""),
-        6 => format!(in alloc; "range {name} ID=\"{id}\",DURATION=1.5"),
-        7 | 8 => format!(in alloc; "unrange {name} {id}"),
-        9 => format!(in alloc; "end {name}"),
-        _ => part_line(alloc, dice, name),
+    if dice.roll(4) == 0 {
+        return String::from_str(alloc, dice.pick(&ITEMS));
     }
-}
-
-/// Returns the line of a random part of the rendition `name`.
-fn part_line(alloc: Global, dice: &mut Dice, name: &str) -> Result<String, AllocError> {
+    let (name, flags) = (
+        dice.pick(&["hi", "lo"]),
+        dice.pick(&["-", "i", "f", "if", "if"]),
+    );
+    // A part of no duration is refused whatever came before.
     let duration = dice.roll(13) * 50_000;
-    let flags = dice.pick(&["-", "i", "f", "if", "if"]);
     format!(in alloc; "part {name} {duration} {flags}")
 }
 
 /// Returns the target of a random request. The channel has no rendition `mid`.
 fn target(alloc: Global, dice: &mut Dice) -> Result<String, AllocError> {
     let name = dice.pick(&["hi", "hi", "lo", "lo", "mid"]);
+    let awaited = match dice.roll(4) {
+        0 => "",
+        1 => dice.pick(&SEGMENTS),
+        _ => dice.pick(&PARTS),
+    };
     let skip = dice.pick(&["", "&_HLS_skip=YES", "&_HLS_skip=v2"]);
-    let (msn, part) = (dice.roll(6), dice.roll(4));
-    match dice.roll(4) {
-        0 => format!(in alloc; "/cam/{name}/live.m3u8?{skip}"),
-        1 => format!(in alloc; "/cam/{name}/live.m3u8?_HLS_msn={msn}{skip}"),
-        _ => format!(in alloc; "/cam/{name}/live.m3u8?_HLS_msn={msn}&_HLS_part={part}{skip}"),
-    }
+    format!(in alloc; "/cam/{name}/live.m3u8?{awaited}{skip}")
 }

@@ -1,26 +1,34 @@
 //! Tables of numbers and texts: spelled, parsed, cut and copied.
-use crate::rows::{column, number};
+use crate::rows::{Bench, Group, column, number};
 use ll_attr::{Text, after, cut, micros_text, parse_micros, parse_number};
 use std::alloc::{AllocError, Global};
 
-pub(crate) fn add_answer(
-    alloc: Global,
-    told: &mut String,
-    question: &str,
-    input: &str,
-) -> Result<(), AllocError> {
-    match question {
-        "written" => add_written(alloc, told, input),
-        "read" => write!(told, "{:?}", parse_micros(input)),
-        "number" => add_number(told, input),
-        "cut" => write!(told, "{:?}", cut(input, ' ')),
-        "after" => write!(told, "{:?}", after(input, "key=")),
-        _ => add_copy(alloc, told, input),
+pub(crate) const TABLES: [&str; 6] = [WRITTEN, READ, NUMBERS, CUTS, KEYS, TEXTS];
+
+pub(crate) struct Texts;
+
+impl Group for Texts {
+    fn add_answer(
+        &self,
+        alloc: Global,
+        _bench: &mut Bench,
+        told: &mut String,
+        question: &str,
+        input: &str,
+    ) -> Result<(), AllocError> {
+        match question {
+            "written" => add_written(alloc, told, input),
+            "read" => add_read(told, input),
+            "number" => add_number(told, input),
+            "cut" => add_cut(told, input),
+            "after" => add_after(told, input),
+            _ => add_copy(alloc, told, input),
+        }
     }
 }
 
 /// Microseconds, and their text.
-pub(crate) const WRITTEN: &str = "text: written
+const WRITTEN: &str = "written
 0 => 0.000000
 1500000 => 1.500000
 999999999999999999 => 999999999999.999999";
@@ -31,7 +39,7 @@ fn add_written(alloc: Global, told: &mut String, input: &str) -> Result<(), Allo
 }
 
 /// A text, and the microseconds that it is parsed as.
-pub(crate) const READ: &str = "text: read
+const READ: &str = "read
 1.5 => Some(1500000)
 7 => Some(7000000)
 0.000001 => Some(1)
@@ -50,8 +58,12 @@ pub(crate) const READ: &str = "text: read
  1 => None
 1e3 => None";
 
+fn add_read(told: &mut String, input: &str) -> Result<(), AllocError> {
+    write!(told, "{:?}", parse_micros(input))
+}
+
 /// How many digits a number is allowed to have, a text, and the number that it is parsed as.
-pub(crate) const NUMBERS: &str = "text: number
+const NUMBERS: &str = "number
 20 | 18446744073709551615 => Some(18446744073709551615)
 20 | 18446744073709551616 => None
 9 | 007 => Some(7)
@@ -67,15 +79,19 @@ fn add_number(told: &mut String, input: &str) -> Result<(), AllocError> {
 }
 
 /// A text, and what stands before and after its first blank.
-pub(crate) const CUTS: &str = r#"text: cut
+const CUTS: &str = r#"cut
 a b  c => Some(("a", "b  c"))
  b => Some(("", "b"))
 a  => Some(("a", ""))
 abc => None
  => None"#;
 
+fn add_cut(told: &mut String, input: &str) -> Result<(), AllocError> {
+    write!(told, "{:?}", cut(input, ' '))
+}
+
 /// A text, and what follows the key at its front.
-pub(crate) const KEYS: &str = r#"text: after
+const KEYS: &str = r#"after
 key=a => Some("a")
 key= => Some("")
 key=key= => Some("key=")
@@ -83,8 +99,12 @@ kex=a => None
 key => None
 a key= => None"#;
 
+fn add_after(told: &mut String, input: &str) -> Result<(), AllocError> {
+    write!(told, "{:?}", after(input, "key="))
+}
+
 /// A text, and its copy.
-pub(crate) const TEXTS: &str = "text: copy
+const TEXTS: &str = "copy
  => []
 a b => [a b]
 größe => [größe]";

@@ -1,22 +1,30 @@
 //! Tables of attribute lists.
-use crate::rows::column;
+use crate::rows::{Bench, Group, column};
 use ll_attr::{AttrList, AttrValue};
 use std::alloc::{AllocError, Global};
 
-pub(crate) fn add_answer(
-    alloc: Global,
-    told: &mut String,
-    question: &str,
-    input: &str,
-) -> Result<(), AllocError> {
-    let (text, rest) = match question {
-        "value" => ("A=1,B=\"x,y\",AB=b=c,C=\"\"", input),
-        "equal" => (column(input, 0), column(input, 1)),
-        _ => (input, ""),
-    };
-    match AttrList::parse(alloc, text) {
-        Ok(list) => add_told(alloc, told, question, list, rest),
-        Err(fault) => write!(told, "{fault:?}"),
+pub(crate) const TABLES: [&str; 5] = [LISTS, VALUES, OTHERS, FAULTS, EQUAL];
+
+pub(crate) struct Lists;
+
+impl Group for Lists {
+    fn add_answer(
+        &self,
+        alloc: Global,
+        _bench: &mut Bench,
+        told: &mut String,
+        question: &str,
+        input: &str,
+    ) -> Result<(), AllocError> {
+        let (text, rest) = match question {
+            "value" => ("A=1,B=\"x,y\",AB=b=c,C=\"\"", input),
+            "equal" => (column(input, 0), column(input, 1)),
+            _ => (input, ""),
+        };
+        match AttrList::parse(alloc, text) {
+            Ok(list) => add_told(alloc, told, question, list, rest),
+            Err(fault) => write!(told, "{fault:?}"),
+        }
     }
 }
 
@@ -37,7 +45,7 @@ fn add_told(
 }
 
 /// A list, which is written as it was read.
-pub(crate) const LISTS: &str = "list: written
+const LISTS: &str = "written
 A=1,B=\"x,y\" => A=1,B=\"x,y\"
 A=\"\" => A=\"\"
 A-1=x => A-1=x
@@ -59,7 +67,7 @@ fn add_written(told: &mut String, list: &AttrList) -> Result<(), AllocError> {
 }
 
 /// A name, and its value in the list of [`add_answer`].
-pub(crate) const VALUES: &str = r#"list: value
+const VALUES: &str = r#"value
 A => 1
 B => "x,y"
 AB => b=c
@@ -79,7 +87,7 @@ fn add_value(told: &mut String, value: Option<&AttrValue>) -> Result<(), AllocEr
 }
 
 /// A list, and the others after its first attribute.
-pub(crate) const OTHERS: &str = r#"list: others
+const OTHERS: &str = r#"others
 A=1 => 
 A=1,B=2 => B=2
 A="B=1",C=2,D=3 => C=2,D=3"#;
@@ -92,7 +100,7 @@ fn add_others(told: &mut String, list: AttrList) -> Result<(), AllocError> {
 }
 
 /// A list, and its first fault.
-pub(crate) const FAULTS: &str = "list: written
+const FAULTS: &str = "written
  => BadName
 A => BadName
 =1 => BadName
@@ -132,7 +140,7 @@ A=1,A=2,b=1 => Twice
 A=1,b=1,A=2 => BadName";
 
 /// Two lists, and whether they are equal.
-pub(crate) const EQUAL: &str = r#"list: equal
+const EQUAL: &str = r#"equal
 A=1 | A=1 => true
 A=1,B="x" | A=1,B="x" => true
 A=1 | A=2 => false

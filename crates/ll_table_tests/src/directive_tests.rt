@@ -1,17 +1,26 @@
 //! Tables of the targets of requests, and what they ask for.
+use crate::rows::{Bench, Group};
 use ll_directive::{Awaited, Want, read_target};
 use ll_item::{SkipKind, What};
 use std::alloc::{AllocError, Global};
 
-pub(crate) fn add_answer(
-    alloc: Global,
-    told: &mut String,
-    question: &str,
-    input: &str,
-) -> Result<(), AllocError> {
-    match question {
-        "many" => add_after_pairs(alloc, told, input),
-        _ => add_target(alloc, told, input),
+pub(crate) const TABLES: [&str; 6] = [DIRECTIVES, FILES, QUERIES, TARGETS, NAMES, MANY];
+
+pub(crate) struct Directives;
+
+impl Group for Directives {
+    fn add_answer(
+        &self,
+        alloc: Global,
+        _bench: &mut Bench,
+        told: &mut String,
+        question: &str,
+        input: &str,
+    ) -> Result<(), AllocError> {
+        match question {
+            "many" => add_after_pairs(alloc, told, input),
+            _ => add_target(alloc, told, input),
+        }
     }
 }
 
@@ -27,11 +36,15 @@ fn add_want(told: &mut String, want: &Want) -> Result<(), AllocError> {
     add_names(told, want)?;
     add_awaited(told, want.awaited())?;
     add_what(told, want.what())?;
-    told.push_str(match want.skip() {
-        None => "",
-        Some(SkipKind::Yes) => ", skip YES",
-        Some(SkipKind::V2) => ", skip v2",
-    })
+    add_skip(told, want.skip())
+}
+
+fn add_skip(told: &mut String, skip: Option<SkipKind>) -> Result<(), AllocError> {
+    match skip {
+        None => Ok(()),
+        Some(SkipKind::Yes) => told.push_str(", skip YES"),
+        Some(SkipKind::V2) => told.push_str(", skip v2"),
+    }
 }
 
 fn add_names(told: &mut String, want: &Want) -> Result<(), AllocError> {
@@ -42,22 +55,30 @@ fn add_names(told: &mut String, want: &Want) -> Result<(), AllocError> {
 fn add_awaited(told: &mut String, awaited: Awaited) -> Result<(), AllocError> {
     match awaited {
         Awaited::Nothing => told.push_str("nothing"),
-        Awaited::Segment(msn) => write!(told, "segment {msn}"),
-        Awaited::Part(msn, part) => write!(told, "part {msn} {part}"),
+        Awaited::Segment(msn) => add_numbered(told, "segment", msn),
+        Awaited::Part(msn, part) => add_indexed(told, "part", msn, part),
     }
 }
 
 fn add_what(told: &mut String, what: What) -> Result<(), AllocError> {
     match what {
         What::Playlist => Ok(()),
-        What::Segment(number) => write!(told, ", file of segment {number}"),
-        What::Part(number, index) => write!(told, ", file of part {number} {index}"),
-        What::Init(number) => write!(told, ", file of section {number}"),
+        What::Segment(number) => add_numbered(told, ", file of segment", number),
+        What::Part(number, index) => add_indexed(told, ", file of part", number, index),
+        What::Init(number) => add_numbered(told, ", file of section", number),
     }
 }
 
+fn add_numbered(told: &mut String, words: &str, number: u64) -> Result<(), AllocError> {
+    write!(told, "{words} {number}")
+}
+
+fn add_indexed(told: &mut String, words: &str, number: u64, index: u64) -> Result<(), AllocError> {
+    write!(told, "{words} {number} {index}")
+}
+
 /// Targets of media, whose query isn't read.
-pub(crate) const FILES: &str = "directive: target
+const FILES: &str = "target
 /cam/hi/s0.m4s => cam hi: nothing, file of segment 0
 /cam/hi/s12.m4s?_HLS_msn=x => cam hi: nothing, file of segment 12
 /cam/hi/s12.3.m4s => cam hi: part 12 3, file of part 12 3
@@ -80,7 +101,7 @@ http://a/cam/hi/init7.mp4? => cam hi: nothing, file of section 7
 /cam/hi/s%30.m4s => NotFound";
 
 /// Targets that are read, and what they ask for.
-pub(crate) const DIRECTIVES: &str = "directive: target
+const DIRECTIVES: &str = "target
 /cam/hi/live.m3u8 => cam hi: nothing
 /cam/hi/live.m3u8? => cam hi: nothing
 /cam/hi/live.m3u8?_HLS_other=1 => cam hi: nothing
@@ -98,7 +119,7 @@ pub(crate) const DIRECTIVES: &str = "directive: target
 /cam/hi/live.m3u8?a=%ff&_HLS+msn=x&=&%00=1&_HLS_msn=4 => cam hi: segment 4";
 
 /// Targets whose query is malformed.
-pub(crate) const QUERIES: &str = "directive: target
+const QUERIES: &str = "target
 /cam/hi/live.m3u8?_HLS_msn => BadMsn
 /cam/hi/live.m3u8?_HLS_msn= => BadMsn
 /cam/hi/live.m3u8?_HLS_msn=+1 => BadMsn
@@ -124,7 +145,7 @@ pub(crate) const QUERIES: &str = "directive: target
 /cam/hi/live.m3u8?_HLS_part=1&_HLS_part=1 => Double";
 
 /// Targets that are malformed, or name nothing.
-pub(crate) const TARGETS: &str = "directive: target
+const TARGETS: &str = "target
 /abcdefghijklmnopqrstuvwxyz_-01890/0/live.m3u8 => NotFound
 /cam//live.m3u8 => NotFound
 /cam/hi/x.m3u8 => NotFound
@@ -149,14 +170,14 @@ live.m3u8 => BadTarget
 /x/é => BadTarget";
 
 /// Targets with names of all forms, which are read and copied.
-pub(crate) const NAMES: &str = "directive: target
+const NAMES: &str = "target
 http://a/cam/hi/live.m3u8 => cam hi: nothing
 HTTPS://a:1/cam/hi/live.m3u8?_HLS_skip=v2 => cam hi: nothing, skip v2
 hTtP://@/-/_/live.m3u8?/ => - _: nothing
 /abcdefghijklmnopqrstuvwxyz_-0189/0/live.m3u8 => abcdefghijklmnopqrstuvwxyz_-0189 0: nothing";
 
 /// A query pair that counts, though two thousand others come before it.
-pub(crate) const MANY: &str = "directive: many
+const MANY: &str = "many
 _HLS_msn=1234 => cam hi: segment 1234";
 
 fn add_after_pairs(alloc: Global, told: &mut String, pair: &str) -> Result<(), AllocError> {

@@ -1,11 +1,13 @@
 //! A table of the names of faults, which `thiserror` writes and no contract pins.
+use crate::rows::{Bench, Group};
 use ll_attr::AttrFault;
 use ll_directive::TargetFault;
 use ll_item::ItemFault;
 use ll_range::{RangeError, RangeFault};
+use ll_read::ReadFault;
 use ll_settings::SettingsFault;
 use ll_window::{PushError, WindowFault};
-use std::alloc::AllocError;
+use std::alloc::{AllocError, Global};
 use std::fmt::Display;
 
 const OF_LISTS: [AttrFault; 4] = [
@@ -53,6 +55,12 @@ const OF_PARTS: [PushError; 9] = [
     PushError::Memory,
 ];
 
+const OF_READING: [ReadFault; 3] = [
+    ReadFault::NotPlaylist,
+    ReadFault::BadLine { line: 3 },
+    ReadFault::Memory,
+];
+
 const OF_TARGETS: [TargetFault; 8] = [
     TargetFault::BadTarget,
     TargetFault::NotFound,
@@ -64,14 +72,28 @@ const OF_TARGETS: [TargetFault; 8] = [
     TargetFault::Memory,
 ];
 
-pub(crate) fn add_answer(told: &mut String, of: &str) -> Result<(), AllocError> {
-    match of {
-        "lists" => add_names(told, &OF_LISTS),
-        "items" => add_names(told, &OF_ITEMS),
-        "ranges" => add_names(told, &OF_RANGES),
-        "settings" => add_names(told, &OF_SETTINGS),
-        "parts" => add_names(told, &OF_PARTS),
-        _ => add_statuses(told, &OF_TARGETS),
+pub(crate) const TABLES: [&str; 1] = [NAMES];
+
+pub(crate) struct Faults;
+
+impl Group for Faults {
+    fn add_answer(
+        &self,
+        _alloc: Global,
+        _bench: &mut Bench,
+        told: &mut String,
+        _question: &str,
+        of: &str,
+    ) -> Result<(), AllocError> {
+        match of {
+            "lists" => add_names(told, &OF_LISTS),
+            "items" => add_names(told, &OF_ITEMS),
+            "ranges" => add_names(told, &OF_RANGES),
+            "settings" => add_names(told, &OF_SETTINGS),
+            "parts" => add_names(told, &OF_PARTS),
+            "reading" => add_names(told, &OF_READING),
+            _ => add_statuses(told, &OF_TARGETS),
+        }
     }
 }
 
@@ -91,11 +113,12 @@ fn add_statuses(told: &mut String, faults: &[TargetFault]) -> Result<(), AllocEr
     Ok(())
 }
 
-pub(crate) const NAMES: &str = "fault: name
+const NAMES: &str = "name
 lists => BadName,BadValue,Twice,Memory,
 items => BadLine,NoRendition,BadAttribute,Memory,
 ranges => IdTaken,BadAttribute,IdUnknown,Memory,
 settings => BadTarget,BadPartTarget,SkipTooSmall,WindowTooSmall,BadName,NoRendition,BadStart,BadLine,Memory,
 parts => Ended,BadDuration,TooLong,OpenSegment,NoSegment,CountEnd,TimeEnd,TimeBack,Memory,
+reading => NotPlaylist,BadLine 3,Memory,
 targets => 400 BadTarget BadTarget,404 NotFound NotFound,400 BadMsn BadMsn,400 BadPart BadPart,400 BadSkip BadSkip,400 Double Double,\
 400 PartAlone PartAlone,503 Memory Memory,";

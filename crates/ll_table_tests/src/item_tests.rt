@@ -1,28 +1,35 @@
 //! Tables of settings and items, and of the lines that spell them.
-use crate::rows::{Bench, LINE, column};
+use crate::rows::{Bench, Group, LINE, column};
 use ll_attr::{AttrList, Text};
-use ll_item::{Item, ItemFault, Media, Payload, announced};
-use ll_settings::Settings;
+use ll_item::{Item, ItemFault, Media, PartItem, Payload, announced};
+use ll_settings::{Settings, SettingsFault};
 use std::alloc::{AllocError, Global};
 
-pub(crate) fn add_answer(
-    alloc: Global,
-    bench: &Bench,
-    told: &mut String,
-    question: &str,
-    input: &str,
-) -> Result<(), AllocError> {
-    match question {
-        "settings" => add_settings_of(alloc, told, input),
-        "changed" => add_changed(alloc, told, input),
-        "made" => add_made(alloc, told, input),
-        _ => add_item_of(alloc, told, &bench.settings, input),
+pub(crate) const TABLES: [&str; 6] = [SETTINGS, LIMITS, FAULTS, MADE, ITEMS, NO_ITEMS];
+
+pub(crate) struct Items;
+
+impl Group for Items {
+    fn add_answer(
+        &self,
+        alloc: Global,
+        bench: &mut Bench,
+        told: &mut String,
+        question: &str,
+        input: &str,
+    ) -> Result<(), AllocError> {
+        match question {
+            "settings" => add_settings_of(alloc, told, input),
+            "changed" => add_changed(alloc, told, input),
+            "made" => add_made(alloc, told, input),
+            _ => add_item_of(alloc, told, &bench.settings, input),
+        }
     }
 }
 
 /// A line, and what a copy of its settings says: the index of the rendition `hi`, and then the names of the renditions, come last.
-pub(crate) const SETTINGS: &str = r#"item: settings
-channel cam target=4 part=1000000 skip=24 window=36 renditions=lo,hi first=7 start=1700000000000 => "cam" (4, 1000000, 24, 36) (7, 1700000000000) Some(1) lo hi"#;
+const SETTINGS: &str = r#"settings
+channel cam target=4 part=1000000 skip=24 window=36 renditions=lo,hi first=7 start=1700000000000 => ("cam", 4, 1000000, 24, 36) (7, 1700000000000, Some(1)) lo hi"#;
 
 fn add_settings_of(alloc: Global, told: &mut String, line: &str) -> Result<(), AllocError> {
     match Settings::read(alloc, line) {
@@ -50,37 +57,49 @@ fn add_settings(told: &mut String, settings: &Settings) -> Result<(), AllocError
 
 /// Appends what settings say, but for the names of renditions.
 fn add_numbers(told: &mut String, settings: &Settings) -> Result<(), AllocError> {
-    let (target, part) = (settings.target(), settings.part_target());
-    let durations = (target, part, settings.skip(), settings.window());
-    let begin = (settings.first(), settings.start());
-    let rendition = settings.rendition("hi");
-    let channel = settings.channel();
-    write!(told, "{channel:?} {durations:?} {begin:?} {rendition:?}")
+    let durations = (
+        settings.channel(),
+        settings.target(),
+        settings.part_target(),
+        settings.skip(),
+        settings.window(),
+    );
+    write!(told, "{durations:?} ")?;
+    let begin = (settings.first(), settings.start(), settings.rendition("hi"));
+    write!(told, "{begin:?}")
 }
 
-/// Appends whether the line of [`LINE`] is read with one of its texts replaced by another, or its fault.
+/// Appends whether settings are made of the line of [`LINE`] with one of its texts replaced by another, or its fault.
 fn add_changed(alloc: Global, told: &mut String, input: &str) -> Result<(), AllocError> {
     let Some((before, after)) = LINE.split_once(column(input, 0)) else {
         return told.push_str("it does not stand in the line");
     };
     let line = format!(in alloc; "{before}{}{after}", column(input, 1))?;
-    match Settings::read(alloc, line.as_str()) {
-        Ok(_) => told.push_str("read"),
+    add_made_of(told, Settings::read(alloc, line.as_str()))
+}
+
+/// Appends that settings are made, or why they aren't.
+fn add_made_of(
+    told: &mut String,
+    settings: Result<Settings, SettingsFault>,
+) -> Result<(), AllocError> {
+    match settings {
+        Ok(_) => told.push_str("made"),
         Err(fault) => write!(told, "{fault:?}"),
     }
 }
 
-pub(crate) const LIMITS: &str = "item: changed
-lo,hi first=7 start=1700000000000 | hi first=0 start=0 => read
-target=4 | target=004 => read
-target=4 part=1000000 skip=24 window=36 | target=1 part=10000 skip=6 window=9 => read
-target=4 part=1000000 skip=24 window=36 | target=60 part=60000000 skip=86220 window=86400 => read
-cam | abcdefghijklmnopqrstuvwxyz_-0189 => read
-lo,hi | a,b,c,d,e,f,g,h => read
-first=7 | first=1152921504606846976 => read
-start=1700000000000 | start=253402300799999 => read";
+const LIMITS: &str = "changed
+lo,hi first=7 start=1700000000000 | hi first=0 start=0 => made
+target=4 | target=004 => made
+target=4 part=1000000 skip=24 window=36 | target=1 part=10000 skip=6 window=9 => made
+target=4 part=1000000 skip=24 window=36 | target=60 part=60000000 skip=86220 window=86400 => made
+cam | abcdefghijklmnopqrstuvwxyz_-0189 => made
+lo,hi | a,b,c,d,e,f,g,h => made
+first=7 | first=1152921504606846976 => made
+start=1700000000000 | start=253402300799999 => made";
 
-pub(crate) const FAULTS: &str = "item: changed
+const FAULTS: &str = "changed
 target=4 | target=0 => BadTarget
 target=4 part=1000000 skip=24 window=36 | target=61 part=1000000 skip=366 window=549 => BadTarget
 part=1000000 | part=9999 => BadPartTarget
@@ -126,7 +145,7 @@ fn names(alloc: Global, words: &str) -> Result<Vec<Text>, AllocError> {
 }
 
 /// The name of a channel, those of its renditions, and the fault.
-pub(crate) const MADE: &str = "item: made
+const MADE: &str = "made
 cam | lo hi => made
 cam |  => NoRendition
 Cam | lo => BadName
@@ -143,19 +162,9 @@ fn add_settings_with(
     channel: Text,
     renditions: Vec<Text>,
 ) -> Result<(), AllocError> {
-    match Settings::new(
-        channel,
-        4,
-        1_000_000,
-        24,
-        36,
-        renditions,
-        7,
-        1_700_000_000_000,
-    ) {
-        Ok(_) => told.push_str("made"),
-        Err(fault) => write!(told, "{fault:?}"),
-    }
+    let start = 1_700_000_000_000;
+    let settings = Settings::new(channel, 4, 1_000_000, 24, 36, renditions, 7, start);
+    add_made_of(told, settings)
 }
 
 /// Reads the item of a line, with the bytes in angle brackets after it, if there are any.
@@ -203,22 +212,44 @@ fn add_copy(told: &mut String, item: &Item) -> Result<(), AllocError> {
 fn add_item(told: &mut String, item: &Item) -> Result<(), AllocError> {
     let rendition = item.rendition();
     match item {
-        Item::Part(part) => {
-            let (duration, independent, finish) = (part.duration, part.independent, part.finish);
-            write!(told, "part {rendition} {duration} {independent} {finish}, ")?;
-            add_bytes(told, &part.media)
-        }
-        Item::Init { media, .. } => {
-            write!(told, "init {rendition}, ")?;
-            add_bytes(told, media)
-        }
-        Item::Finish { .. } => write!(told, "finish {rendition}"),
-        Item::Break { time: None, .. } => write!(told, "break {rendition}"),
-        Item::Break { time: Some(ms), .. } => write!(told, "break {rendition} at {ms}"),
-        Item::End { .. } => write!(told, "end {rendition}"),
+        Item::Part(part) => add_part(told, part),
+        Item::Init { media, .. } => add_init(told, rendition, media),
+        Item::Finish { .. } => add_kind(told, "finish", rendition),
+        Item::Break { time, .. } => add_break(told, rendition, *time),
+        Item::End { .. } => add_kind(told, "end", rendition),
         Item::Range { id, attributes, .. } => add_range(told, rendition, id, attributes),
-        Item::Unrange { id, .. } => write!(told, "unrange {rendition} [{id}]"),
+        Item::Unrange { id, .. } => add_unrange(told, rendition, id),
     }
+}
+
+fn add_kind(told: &mut String, kind: &str, rendition: usize) -> Result<(), AllocError> {
+    write!(told, "{kind} {rendition}")
+}
+
+fn add_part(told: &mut String, part: &PartItem) -> Result<(), AllocError> {
+    add_kind(told, "part", part.rendition)?;
+    let said = (part.duration, part.independent, part.finish);
+    write!(told, " {said:?}, ")?;
+    add_bytes(told, &part.media)
+}
+
+fn add_init(told: &mut String, rendition: usize, media: &Media) -> Result<(), AllocError> {
+    add_kind(told, "init", rendition)?;
+    told.push_str(", ")?;
+    add_bytes(told, media)
+}
+
+fn add_break(told: &mut String, rendition: usize, time: Option<u64>) -> Result<(), AllocError> {
+    add_kind(told, "break", rendition)?;
+    match time {
+        None => Ok(()),
+        Some(ms) => write!(told, " at {ms}"),
+    }
+}
+
+fn add_unrange(told: &mut String, rendition: usize, id: &Text) -> Result<(), AllocError> {
+    add_kind(told, "unrange", rendition)?;
+    write!(told, " [{id}]")
 }
 
 /// Appends the bytes, or their number if they weren't given.
@@ -236,25 +267,26 @@ fn add_range(
     attributes: &AttrList,
 ) -> Result<(), AllocError> {
     let list = attributes.write()?;
-    write!(told, "range {rendition} [{id}] [{list}]")
+    add_kind(told, "range", rendition)?;
+    write!(told, " [{id}] [{list}]")
 }
 
 /// A line, and what a copy of its item says.
-pub(crate) const ITEMS: &str = r#"item: item
-part hi 1000000 - => part 1 1000000 false false, []
-part hi 1000000 - 0 => part 1 1000000 false false, []
-part hi 1000000 - 1 => part 1 1000000 false false, 1 bytes
-part hi 1000000 - <abc> => part 1 1000000 false false, [97, 98, 99]
-part hi 1000000 - <> => part 1 1000000 false false, []
+const ITEMS: &str = r#"item
+part hi 1000000 - => part 1 (1000000, false, false), []
+part hi 1000000 - 0 => part 1 (1000000, false, false), []
+part hi 1000000 - 1 => part 1 (1000000, false, false), 1 bytes
+part hi 1000000 - <abc> => part 1 (1000000, false, false), [97, 98, 99]
+part hi 1000000 - <> => part 1 (1000000, false, false), []
 init hi <a b> => init 1, [97, 32, 98]
 break hi <> => break 1
-part hi 1000000 - 1048576 => part 1 1000000 false false, 1048576 bytes
+part hi 1000000 - 1048576 => part 1 (1000000, false, false), 1048576 bytes
 init hi 1 => init 1, 1 bytes
 init lo 1048576 => init 0, 1048576 bytes
 init lo 0 => init 0, []
-part hi 1000000 i => part 1 1000000 true false, []
-part hi 18446744073709551615 f => part 1 18446744073709551615 false true, []
-part hi 007 if => part 1 7 true true, []
+part hi 1000000 i => part 1 (1000000, true, false), []
+part hi 18446744073709551615 f => part 1 (18446744073709551615, false, true), []
+part hi 007 if => part 1 (7, true, true), []
 break lo => break 0
 break hi => break 1
 break hi 0 => break 1 at 0
@@ -274,7 +306,7 @@ unrange lo  a  => unrange 0 [ a ]
 unrange hi  => unrange 1 []"#;
 
 /// A line that is no item, and its first fault.
-pub(crate) const NO_ITEMS: &str = r#"item: item
+const NO_ITEMS: &str = r#"item
 part zz 1 f => NoRendition
 part zz x f => BadLine
 part hi 1000000 => BadLine

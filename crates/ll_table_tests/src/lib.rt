@@ -1,4 +1,4 @@
-//! Tests of `ll_attr`, `ll_format`, `ll_mp4`, `ll_parts`, `ll_item`, `ll_window`, `ll_range`, `ll_page`, `ll_read`, `ll_directive`, `ll_publish`,
+//! Tests of `ll_attr`, `ll_format`, `ll_parts`, `ll_item`, `ll_window`, `ll_range`, `ll_page`, `ll_read`, `ll_directive`, `ll_publish`,
 //! `ll_wire` and `ll_session`, most of them as tables of rows. They have a crate of their own so that none of these is proved a second time for them.
 #![tactic(auto)]
 
@@ -19,13 +19,9 @@ mod item_tests;
 #[cfg(test)]
 mod page_tests;
 #[cfg(test)]
-mod pages;
-#[cfg(test)]
 mod piece_tests;
 #[cfg(test)]
 mod range_tests;
-#[cfg(test)]
-mod read_fault_tests;
 #[cfg(test)]
 mod read_table_tests;
 #[cfg(test)]

@@ -1,9 +1,10 @@
 //! Tables of playlists, and of the views and pages that they are written from.
-use crate::rows::{column, number};
+use crate::rows::{Bench, Group, column, number};
+use ll_attr::Text;
 use ll_item::{Item, Payload};
 use ll_page::{Page, Rendition, Shown, SkipKind, View, delta, full};
 use ll_range::Ranges;
-use ll_settings::{Settings, SettingsFault};
+use ll_settings::Settings;
 use ll_window::Window;
 use std::alloc::{AllocError, Global};
 
@@ -97,6 +98,11 @@ part hi 1000000 f
 part hi 1000000 f
 end hi";
 
+/// Settings and an item, whose playlist has 426 bytes.
+const ONE_PART: &str =
+    "channel cam target=4 part=1000000 skip=24 window=36 renditions=hi first=0 start=0
+part hi 1000000 -";
+
 /// Returns the text of a name.
 fn text_of(name: &str) -> &str {
     match name {
@@ -107,14 +113,19 @@ fn text_of(name: &str) -> &str {
     }
 }
 
+/// Returns the settings of a channel's name, and the lines of its items.
+pub(crate) fn lines_of(name: &str) -> (&str, &str) {
+    text_of(name).split_once('\n').unwrap_or(("", ""))
+}
+
 /// Returns the name of a playlist, or the playlist if it has none.
 fn name_of(text: &str) -> &str {
-    for (name, playlist) in [("ENDED", ENDED), ("BROKEN", BROKEN), ("SKIPPED", SKIPPED)] {
-        if playlist == text {
-            return name;
-        }
+    match text {
+        ENDED => "ENDED",
+        BROKEN => "BROKEN",
+        SKIPPED => "SKIPPED",
+        _ => text,
     }
-    text
 }
 
 /// The settings of a channel, and what is kept of its renditions.
@@ -125,20 +136,14 @@ pub(crate) struct Channel {
 }
 
 impl Channel {
-    /// Returns the channel of this name before its items, and the lines of these.
-    pub(crate) fn named(alloc: Global, name: &str) -> Result<(Channel, &str), SettingsFault> {
-        let (line, items) = text_of(name).split_once('\n').unwrap_or(("", ""));
-        let settings = Settings::read(alloc, line)?;
-        match no_items(alloc, &settings) {
-            Ok(renditions) => Ok((
-                Channel {
-                    settings,
-                    renditions,
-                },
-                items,
-            )),
-            Err(_) => Err(SettingsFault::Memory),
-        }
+    /// Returns the channel of these settings before its items.
+    pub(crate) fn new(alloc: Global, line: &str) -> Option<Channel> {
+        let settings = Settings::read(alloc, line).ok()?;
+        let renditions = no_items(alloc, &settings).ok()?;
+        Some(Channel {
+            settings,
+            renditions,
+        })
     }
 
     /// Publishes the items of `lines`. Returns whether each is accepted.
@@ -153,12 +158,9 @@ impl Channel {
 
     /// Publishes the item of `line`. Returns whether it is accepted.
     pub(crate) fn publish_line(&mut self, alloc: Global, line: &str) -> bool {
-        let Ok(item) = Item::read(alloc, &self.settings, line, &Payload::none()) else {
-            return false;
-        };
-        match self.renditions.get_mut(item.rendition()) {
-            Some(kept) => push(kept, item),
-            None => false,
+        match Item::read(alloc, &self.settings, line, &Payload::none()) {
+            Ok(item) => push(&mut self.renditions, item),
+            Err(_) => false,
         }
     }
 }
@@ -167,15 +169,26 @@ impl Channel {
 fn no_items(alloc: Global, settings: &Settings) -> Result<Vec<Rendition>, AllocError> {
     let mut renditions = Vec::new(alloc);
     for _ in settings.renditions() {
-        let window = Window::new(alloc, settings)?;
-        let ranges = Ranges::new(alloc, settings);
-        renditions.push(Rendition { window, ranges })?;
+        renditions.push(no_item(alloc, settings)?)?;
     }
     Ok(renditions)
 }
 
+fn no_item(alloc: Global, settings: &Settings) -> Result<Rendition, AllocError> {
+    let window = Window::new(alloc, settings)?;
+    let ranges = Ranges::new(alloc, settings);
+    Ok(Rendition { window, ranges })
+}
+
 /// Adds an item. Returns whether it is accepted.
-fn push(kept: &mut Rendition, item: Item) -> bool {
+fn push(renditions: &mut [Rendition], item: Item) -> bool {
+    match renditions.get_mut(item.rendition()) {
+        Some(kept) => push_to(kept, item),
+        None => false,
+    }
+}
+
+fn push_to(kept: &mut Rendition, item: Item) -> bool {
     let end = kept.window.end_time();
     match item {
         Item::Range { id, attributes, .. } => kept.ranges.add(end, id, attributes).is_ok(),
@@ -183,20 +196,50 @@ fn push(kept: &mut Rendition, item: Item) -> bool {
     }
 }
 
-pub(crate) fn add_answer(
+pub(crate) const TABLES: [&str; 4] = [VIEWS, PAGES, SHARED, OF_ONE];
+
+pub(crate) struct Views;
+
+impl Group for Views {
+    fn add_answer(
+        &self,
+        alloc: Global,
+        _bench: &mut Bench,
+        told: &mut String,
+        question: &str,
+        input: &str,
+    ) -> Result<(), AllocError> {
+        let (line, items) = lines_of(column(input, 0));
+        match Channel::new(alloc, line) {
+            Some(mut channel) => add_channel(alloc, told, &mut channel, items, question, input),
+            None => told.push_str("no settings"),
+        }
+    }
+}
+
+fn add_channel(
     alloc: Global,
     told: &mut String,
+    channel: &mut Channel,
+    items: &str,
     question: &str,
     input: &str,
 ) -> Result<(), AllocError> {
-    match Channel::named(alloc, column(input, 0)) {
-        Ok((mut channel, items)) => {
-            if !channel.publish(alloc, items) {
-                told.push_str("an item is refused, ")?;
-            }
-            add_told(alloc, told, &mut channel, question, input)
-        }
-        Err(fault) => write!(told, "{fault}"),
+    add_published(alloc, told, channel, items)?;
+    add_told(alloc, told, channel, question, input)
+}
+
+/// Publishes the items of `lines`, and appends whether one is refused.
+fn add_published(
+    alloc: Global,
+    told: &mut String,
+    channel: &mut Channel,
+    lines: &str,
+) -> Result<(), AllocError> {
+    if channel.publish(alloc, lines) {
+        Ok(())
+    } else {
+        told.push_str("an item is refused, ")
     }
 }
 
@@ -211,20 +254,30 @@ fn add_told(
     match question {
         "page" => add_page_before(alloc, told, channel, rendition, input),
         "shared" => add_shared(alloc, told, channel, rendition),
-        _ => match View::new(&channel.settings, &channel.renditions, rendition, 9) {
-            Some(view) => add_view(alloc, told, &view, column(input, 2)),
-            None => told.push_str("None"),
-        },
+        _ => add_view_of(alloc, told, channel, rendition, column(input, 2)),
     }
 }
 
 /// A channel, the index of a rendition, what may be skipped, and the playlist.
-pub(crate) const VIEWS: &str = "page: view
+const VIEWS: &str = "view
 TWO | 0 | nothing => ENDED
 TWO | 1 | nothing => BROKEN
 TWO | 0 | YES => ENDED
 TWO | 1 | v2 => BROKEN
 ONE | 0 | YES => SKIPPED";
+
+fn add_view_of(
+    alloc: Global,
+    told: &mut String,
+    channel: &Channel,
+    rendition: usize,
+    skip: &str,
+) -> Result<(), AllocError> {
+    match View::new(&channel.settings, &channel.renditions, rendition, 9) {
+        Some(view) => add_view(alloc, told, &view, skip),
+        None => told.push_str("None"),
+    }
+}
 
 /// Appends the playlist of a view in the form that `skip` names, or the counts of the view if it names none.
 fn add_view(
@@ -233,22 +286,26 @@ fn add_view(
     view: &View<'_>,
     skip: &str,
 ) -> Result<(), AllocError> {
-    let text = match skip {
-        "nothing" => full(alloc, view),
-        "YES" => delta(alloc, view, SkipKind::Yes),
-        "v2" => delta(alloc, view, SkipKind::V2),
-        _ => return add_counts(told, view),
-    };
-    told.push_str(name_of(text?.as_str()))
+    match skip {
+        "nothing" => add_text(told, full(alloc, view)),
+        "YES" => add_text(told, delta(alloc, view, SkipKind::Yes)),
+        "v2" => add_text(told, delta(alloc, view, SkipKind::V2)),
+        _ => add_counts(told, view),
+    }
+}
+
+fn add_text(told: &mut String, text: Result<Text, AllocError>) -> Result<(), AllocError> {
+    let text = text?;
+    told.push_str(name_of(text.as_str()))
 }
 
 /// A channel, the index of a rendition, the form of a page, and what is published after the page was made; then what the page says, what its copy
 /// says, and the rendition and the count of its view.
-pub(crate) const PAGES: &str = "page: page
-TWO | 0 | full | LATER => ENDED 9 0 None, ENDED 9 0 None, 0 9
-TWO | 1 | full | LATER => BROKEN 9 1 None, BROKEN 9 1 None, 1 9
-TWO | 1 | update | LATER => BROKEN 9 1 Some(Yes), BROKEN 9 1 Some(Yes), 1 9
-ONE | 0 | update |  => SKIPPED 9 0 Some(Yes), SKIPPED 9 0 Some(Yes), 0 9";
+const PAGES: &str = r#"page
+TWO | 0 | full | LATER => ("ENDED", 9, 0, None), ("ENDED", 9, 0, None), (0, 9)
+TWO | 1 | full | LATER => ("BROKEN", 9, 1, None), ("BROKEN", 9, 1, None), (1, 9)
+TWO | 1 | update | LATER => ("BROKEN", 9, 1, Some(Yes)), ("BROKEN", 9, 1, Some(Yes)), (1, 9)
+ONE | 0 | update |  => ("SKIPPED", 9, 0, Some(Yes)), ("SKIPPED", 9, 0, Some(Yes)), (0, 9)"#;
 
 fn add_page_before(
     alloc: Global,
@@ -257,17 +314,27 @@ fn add_page_before(
     rendition: usize,
     input: &str,
 ) -> Result<(), AllocError> {
-    let form = match column(input, 2) {
+    match page(alloc, channel, rendition, form_of(column(input, 2)))? {
+        Some(page) => add_page_after(alloc, told, channel, &page, text_of(column(input, 3))),
+        None => told.push_str("None"),
+    }
+}
+
+fn add_page_after(
+    alloc: Global,
+    told: &mut String,
+    channel: &mut Channel,
+    page: &Page,
+    later: &str,
+) -> Result<(), AllocError> {
+    add_published(alloc, told, channel, later)?;
+    add_both(told, page)
+}
+
+fn form_of(word: &str) -> Option<SkipKind> {
+    match word {
         "full" => None,
         _ => Some(SkipKind::Yes),
-    };
-    let page = page(alloc, channel, rendition, form)?;
-    if !channel.publish(alloc, text_of(column(input, 3))) {
-        told.push_str("an item is refused, ")?;
-    }
-    match page {
-        Some(page) => add_both(told, &page),
-        None => told.push_str("None"),
     }
 }
 
@@ -281,12 +348,30 @@ fn page(
     Page::make(alloc, &shown, rendition, form)
 }
 
+/// Returns the playlist of a channel in which one part was published.
+pub(crate) fn page_of_one_part(alloc: Global) -> Result<Option<Page>, AllocError> {
+    let (line, items) = lines_of(ONE_PART);
+    match Channel::new(alloc, line) {
+        Some(mut channel) => page_after(alloc, &mut channel, items),
+        None => Ok(None),
+    }
+}
+
+fn page_after(
+    alloc: Global,
+    channel: &mut Channel,
+    items: &str,
+) -> Result<Option<Page>, AllocError> {
+    channel.publish(alloc, items);
+    page(alloc, channel, 0, None)
+}
+
 /// Appends what a page says, the same of its copy, and the rendition and the count of its view.
 fn add_both(told: &mut String, page: &Page) -> Result<(), AllocError> {
     add_page(told, page)?;
     add_copy(told, page)?;
     let view = page.view();
-    write!(told, "{} {}", view.rendition(), view.count())
+    write!(told, "{:?}", (view.rendition(), view.count()))
 }
 
 fn add_copy(told: &mut String, page: &Page) -> Result<(), AllocError> {
@@ -298,11 +383,11 @@ fn add_copy(told: &mut String, page: &Page) -> Result<(), AllocError> {
 fn add_page(told: &mut String, page: &Page) -> Result<(), AllocError> {
     let (number, rendition, form) = (page.number(), page.rendition(), page.form());
     let name = name_of(page.text());
-    write!(told, "{name} {number} {rendition} {form:?}, ")
+    write!(told, "{:?}, ", (name, number, rendition, form))
 }
 
 /// A channel, the index of a rendition, and its page, made from a copy of what is shown.
-pub(crate) const SHARED: &str = "page: shared
+const SHARED: &str = "shared
 TWO | 0 => ENDED
 TWO | 1 => BROKEN
 TWO | 2 => None";
@@ -314,7 +399,12 @@ fn add_shared(
     rendition: usize,
 ) -> Result<(), AllocError> {
     let shown = Shown::of(alloc, &channel.settings, &channel.renditions, 9)?;
-    match Page::make(alloc, &shown.again()?, rendition, None)? {
+    let copy = shown.again()?;
+    add_made(told, Page::make(alloc, &copy, rendition, None))
+}
+
+fn add_made(told: &mut String, made: Result<Option<Page>, AllocError>) -> Result<(), AllocError> {
+    match made? {
         Some(page) => told.push_str(name_of(page.text())),
         None => told.push_str("None"),
     }
@@ -322,7 +412,7 @@ fn add_shared(
 
 /// A channel, the index of a rendition, and what its view says: the index, the count, the channel, how many segments and date ranges the rendition
 /// has, and how many renditions there are.
-pub(crate) const OF_ONE: &str = r#"page: view
+const OF_ONE: &str = r#"view
 TWO | 0 => (0, 9, "cam", 0, 1, 2)
 TWO | 1 => (1, 9, "cam", 1, 0, 2)
 TWO | 2 => None"#;

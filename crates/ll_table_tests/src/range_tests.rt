@@ -1,5 +1,5 @@
 //! Tables of date ranges and their removals, which are recent for six seconds of parts.
-use crate::rows::{Bench, column, number};
+use crate::rows::{Bench, Group, column, number};
 use ll_attr::{AttrList, Text};
 use ll_range::{RangeError, RangeFault, Ranges};
 use std::alloc::{AllocError, Global};
@@ -7,25 +7,40 @@ use std::alloc::{AllocError, Global};
 /// The attributes of a date range that can be added.
 const GOOD: &str = "START-DATE=\"2024-02-29T12:00:00Z\"";
 
-pub(crate) fn add_answer(
+pub(crate) const TABLES: [&str; 4] = [CHANGES, COPIES, ATTRIBUTES, IDS];
+
+pub(crate) struct DateRanges;
+
+impl Group for DateRanges {
+    fn add_answer(
+        &self,
+        alloc: Global,
+        bench: &mut Bench,
+        told: &mut String,
+        question: &str,
+        input: &str,
+    ) -> Result<(), AllocError> {
+        let ranges = &mut bench.ranges;
+        match question {
+            "attributes" => add_tests(alloc, told, ranges, input),
+            "id" => add_test(alloc, told, ranges, input, GOOD),
+            _ => add_changed(alloc, told, ranges, question, input),
+        }
+    }
+}
+
+/// Appends the answer to a change, and the state after it.
+fn add_changed(
     alloc: Global,
-    bench: &mut Bench,
     told: &mut String,
+    ranges: &mut Ranges,
     question: &str,
     input: &str,
 ) -> Result<(), AllocError> {
-    let ranges = &mut bench.ranges;
+    add_change(alloc, told, ranges, input)?;
     match question {
-        "attributes" => add_tests(alloc, told, ranges, input),
-        "id" => add_result(told, test_add(alloc, ranges, 0, input, GOOD)),
-        "copy" => {
-            add_change(alloc, told, ranges, input)?;
-            add_copy(alloc, told, ranges, number(input, 3))
-        }
-        _ => {
-            add_change(alloc, told, ranges, input)?;
-            add_state(alloc, told, ranges, number(input, 3))
-        }
+        "copy" => add_copy(alloc, told, ranges, number(input, 3)),
+        _ => add_state(alloc, told, ranges, number(input, 3)),
     }
 }
 
@@ -62,10 +77,7 @@ fn change(
         "remove" => ranges.remove(end, id),
         "test add" => test_add(alloc, ranges, end, id, GOOD),
         "test remove" => refused(ranges.test_remove(id)),
-        _ => {
-            ranges.expire(end);
-            Ok(())
-        }
+        _ => Ok(ranges.expire(end)),
     }
 }
 
@@ -101,11 +113,16 @@ fn test_add(
 /// Appends the ids that are listed, each with the time of its adding.
 fn add_listed(told: &mut String, ranges: &Ranges) -> Result<(), AllocError> {
     for place in 0..ranges.count() {
-        if let Some(range) = ranges.listed(place) {
-            write!(told, "{} {} ", range.id, range.added)?;
-        }
+        add_listed_at(told, ranges, place)?;
     }
     told.push('|')
+}
+
+fn add_listed_at(told: &mut String, ranges: &Ranges, place: usize) -> Result<(), AllocError> {
+    match ranges.listed(place) {
+        Some(range) => write!(told, "{} {} ", range.id, range.added),
+        None => Ok(()),
+    }
 }
 
 /// Appends these ids.
@@ -136,7 +153,7 @@ fn add_copy(alloc: Global, told: &mut String, ranges: &Ranges, end: u64) -> Resu
 
 /// What is done with an id, how long all parts last then, and how long at the moment that is shown; the answer, the ids that are listed, each with
 /// the time of its adding, and after a bar those that were removed recently.
-pub(crate) const CHANGES: &str = "range: change
+const CHANGES: &str = "change
 begin channel cam target=1 part=1000000 skip=6 window=9 renditions=hi first=0 start=0 => begun
 test add | c | 0 | 0 => Ok(()) |
 test remove | c | 0 | 0 => Err(IdUnknown) |
@@ -157,14 +174,14 @@ add | c | 7000001 | 7000001 => Ok(()) b 1000000 c 7000001 | a
 expire |  | 8000001 | 8000001 => Ok(()) b 1000000 c 7000001 |";
 
 /// The same of a copy.
-pub(crate) const COPIES: &str = "range: copy
+const COPIES: &str = "copy
 begin channel cam target=1 part=1000000 skip=6 window=9 renditions=hi first=0 start=0 => begun
 add | a | 0 | 0 => Ok(()) a 0 |
 remove | a | 0 | 0 => Ok(()) | a
 expire | a | 6000001 | 0 => Ok(()) |";
 
 /// Attributes, and whether they can be added without START-DATE and with it.
-pub(crate) const ATTRIBUTES: &str = r#"range: attributes
+const ATTRIBUTES: &str = r#"attributes
 CLASS="" => (Err(BadAttribute), Ok(()))
 END-DATE="2024-02-29T12:00:00.5+01:00" => (Err(BadAttribute), Ok(()))
 DURATION=1 => (Err(BadAttribute), Ok(()))
@@ -192,18 +209,36 @@ fn add_tests(
     ranges: &Ranges,
     more: &str,
 ) -> Result<(), AllocError> {
-    let text = format!(in alloc; "{more},{GOOD}")?;
-    let alone = test_add(alloc, ranges, 0, "a", more);
-    let with_start = test_add(alloc, ranges, 0, "a", text.as_str());
     told.push('(')?;
-    add_result(told, alone)?;
+    add_test(alloc, told, ranges, "a", more)?;
     told.push_str(", ")?;
-    add_result(told, with_start)?;
+    add_test_with_start(alloc, told, ranges, more)?;
     told.push(')')
 }
 
+fn add_test_with_start(
+    alloc: Global,
+    told: &mut String,
+    ranges: &Ranges,
+    more: &str,
+) -> Result<(), AllocError> {
+    let text = format!(in alloc; "{more},{GOOD}")?;
+    add_test(alloc, told, ranges, "a", text.as_str())
+}
+
+/// Appends whether an id can be added with `attributes`.
+fn add_test(
+    alloc: Global,
+    told: &mut String,
+    ranges: &Ranges,
+    id: &str,
+    attributes: &str,
+) -> Result<(), AllocError> {
+    add_result(told, test_add(alloc, ranges, 0, id, attributes))
+}
+
 /// An id, and whether it can be added.
-pub(crate) const IDS: &str = "range: id
+const IDS: &str = "id
 a b,c='größe' => Ok(())
  => Err(BadAttribute)
 a\tb => Err(BadAttribute)

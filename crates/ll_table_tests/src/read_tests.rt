@@ -1,5 +1,5 @@
 //! Tables of playlists that are read and written again.
-use crate::rows::column;
+use crate::rows::{Bench, Group, column};
 use ll_read::{Playlist, read, read_outline};
 use std::alloc::{AllocError, Global};
 
@@ -44,26 +44,34 @@ const DELTA: &str = "#EXTM3U\n\
     s8.m4s\n\
     #EXT-X-ENDLIST\n";
 
-pub(crate) fn add_answer(
-    alloc: Global,
-    told: &mut String,
-    question: &str,
-    input: &str,
-) -> Result<(), AllocError> {
-    match question {
-        "full" => add_again(alloc, told, FULL, input),
-        "delta" => add_again(alloc, told, DELTA, input),
-        _ => add_changed(alloc, told, input),
+pub(crate) const TABLES: [&str; 5] = [OF_FULL, OF_DELTA, NUMBERS, DURATIONS, TEXTS];
+
+pub(crate) struct Playlists;
+
+impl Group for Playlists {
+    fn add_answer(
+        &self,
+        alloc: Global,
+        _bench: &mut Bench,
+        told: &mut String,
+        question: &str,
+        input: &str,
+    ) -> Result<(), AllocError> {
+        match question {
+            "full" => add_again(alloc, told, FULL, input),
+            "delta" => add_again(alloc, told, DELTA, input),
+            _ => add_changed(alloc, told, input),
+        }
     }
 }
 
 /// The end of the full playlist's lines; its outline, without memory and as it is read; and what it is written as then.
-pub(crate) const OF_FULL: &str = "read: full
+const OF_FULL: &str = "full
 LF => Outline { sequence: 7, segments: 2, skipped: None }, Outline { sequence: 7, segments: 2, skipped: None }, the same text
 CR LF => Outline { sequence: 7, segments: 2, skipped: None }, Outline { sequence: 7, segments: 2, skipped: None }, the same text";
 
 /// The same of the delta update.
-pub(crate) const OF_DELTA: &str = "read: delta
+const OF_DELTA: &str = "delta
 LF => Outline { sequence: 5, segments: 1, skipped: Some(3) }, Outline { sequence: 5, segments: 1, skipped: Some(3) }, the same text
 CR LF => Outline { sequence: 5, segments: 1, skipped: Some(3) }, Outline { sequence: 5, segments: 1, skipped: Some(3) }, the same text";
 
@@ -71,11 +79,41 @@ CR LF => Outline { sequence: 5, segments: 1, skipped: Some(3) }, Outline { seque
 fn add_again(alloc: Global, told: &mut String, text: &str, end: &str) -> Result<(), AllocError> {
     let end = if end == "LF" { "\n" } else { "\r\n" };
     let other = text.replace(alloc, "\n", end)?;
-    let bytes = other.as_str().as_bytes();
+    add_outlines(alloc, told, text, other.as_str().as_bytes())
+}
+
+fn add_outlines(
+    alloc: Global,
+    told: &mut String,
+    text: &str,
+    bytes: &[u8],
+) -> Result<(), AllocError> {
     write!(told, "{:?}, ", read_outline(alloc, bytes))?;
+    add_read(alloc, told, bytes, Some(text))
+}
+
+/// Appends the fault of a text; or, if it is a playlist, whether it is written as `again`, or its counts if that is `None`.
+fn add_read(
+    alloc: Global,
+    told: &mut String,
+    bytes: &[u8],
+    again: Option<&str>,
+) -> Result<(), AllocError> {
     match read(alloc, bytes) {
-        Ok(playlist) => add_written(alloc, told, &playlist, text),
+        Ok(playlist) => add_playlist(alloc, told, &playlist, again),
         Err(fault) => write!(told, "{fault}"),
+    }
+}
+
+fn add_playlist(
+    alloc: Global,
+    told: &mut String,
+    playlist: &Playlist,
+    again: Option<&str>,
+) -> Result<(), AllocError> {
+    match again {
+        Some(text) => add_written(alloc, told, playlist, text),
+        None => add_counts_of(told, playlist),
     }
 }
 
@@ -86,27 +124,23 @@ fn add_written(
     playlist: &Playlist,
     text: &str,
 ) -> Result<(), AllocError> {
+    write!(told, "{:?}, ", playlist.outline())?;
     let written = playlist.write(alloc)?;
-    let name = if written.as_str() == text {
+    told.push_str(if written.as_str() == text {
         "the same text"
     } else {
         written.as_str()
-    };
-    write!(told, "{:?}, {name}", playlist.outline())
+    })
 }
 
 /// Appends how many date ranges, segments and reports a text has, or its fault.
 pub(crate) fn add_counts(alloc: Global, told: &mut String, text: &[u8]) -> Result<(), AllocError> {
-    match read(alloc, text) {
-        Ok(p) => write!(
-            told,
-            "{} {} {}",
-            p.ranges(),
-            p.segments.len(),
-            p.reports.len()
-        ),
-        Err(fault) => write!(told, "{fault}"),
-    }
+    add_read(alloc, told, text, None)
+}
+
+fn add_counts_of(told: &mut String, playlist: &Playlist) -> Result<(), AllocError> {
+    let (segments, reports) = (playlist.segments.len(), playlist.reports.len());
+    write!(told, "{:?}", (playlist.ranges(), segments, reports))
 }
 
 /// Appends the counts or the fault of the full playlist with one of its texts replaced by another. It has 24 lines.
@@ -119,60 +153,60 @@ fn add_changed(alloc: Global, told: &mut String, input: &str) -> Result<(), Allo
 }
 
 /// Numbers at their limits.
-pub(crate) const NUMBERS: &str = "read: changed
-VERSION:10 | VERSION:9 => 2 2 1
+const NUMBERS: &str = "changed
+VERSION:10 | VERSION:9 => (2, 2, 1)
 VERSION:10 | VERSION:8 => BadLine 2
 VERSION:10 | VERSION:11 => BadLine 2
-TION:4 | TION:2305843009213693952 => 2 2 1
+TION:4 | TION:2305843009213693952 => (2, 2, 1)
 TION:4 | TION:2305843009213693953 => BadLine 3
 TION:4 | TION:04 => BadLine 3
 TION:4 | TION:+4 => BadLine 3
 TION:4 | TION: => BadLine 3
-SEQUENCE:7 | SEQUENCE:2305843009213693952 => 2 2 1
+SEQUENCE:7 | SEQUENCE:2305843009213693952 => (2, 2, 1)
 SEQUENCE:7 | SEQUENCE:2305843009213693953 => BadLine 6
 SEQUENCE:7 | SEQUENCE:18446744073709551616 => BadLine 6
-SEQUENCE:2 | SEQUENCE:2305843009213693952 => 2 2 1
+SEQUENCE:2 | SEQUENCE:2305843009213693952 => (2, 2, 1)
 SEQUENCE:2 | SEQUENCE:2305843009213693953 => BadLine 7
-MSN=9 | MSN=2305843009213693952 => 2 2 1
+MSN=9 | MSN=2305843009213693952 => (2, 2, 1)
 MSN=9 | MSN=2305843009213693953 => BadLine 23
-PART=3 | PART=2305843009213693952 => 2 2 1
+PART=3 | PART=2305843009213693952 => (2, 2, 1)
 PART=3 | PART=2305843009213693953 => BadLine 23";
 
 /// Durations at their limits.
-pub(crate) const DURATIONS: &str = "read: changed
-BACK=3.000000 | BACK=999999999999.999999 => 2 2 1
+const DURATIONS: &str = "changed
+BACK=3.000000 | BACK=999999999999.999999 => (2, 2, 1)
 BACK=3.000000 | BACK=1000000000000.000000 => BadLine 4
-UNTIL=24.000000 | UNTIL=999999999999.999999 => 2 2 1
+UNTIL=24.000000 | UNTIL=999999999999.999999 => (2, 2, 1)
 UNTIL=24.000000 | UNTIL=1000000000000.000000 => BadLine 4
-GET=1.000000 | GET=999999999999.999999 => 2 2 1
+GET=1.000000 | GET=999999999999.999999 => (2, 2, 1)
 GET=1.000000 | GET=9999999999999.999999 => BadLine 5
-INF:1.500000 | INF:999999999999.999999 => 2 2 1
+INF:1.500000 | INF:999999999999.999999 => (2, 2, 1)
 INF:1.500000 | INF:9999999999999.999999 => BadLine 12
-INF:1.500000 | INF:0.000000 => 2 2 1
+INF:1.500000 | INF:0.000000 => (2, 2, 1)
 INF:1.500000 | INF:01.500000 => BadLine 12
 INF:1.500000 | INF:1.5000000 => BadLine 12
 INF:1.500000 | INF:1.50000 => BadLine 12
 INF:1.500000 | INF:1 => BadLine 12
-ION=0.500000 | ION=999999999999.999999 => 2 2 1
+ION=0.500000 | ION=999999999999.999999 => (2, 2, 1)
 ION=0.500000 | ION=1000000000000.000000 => BadLine 15";
 
 /// Texts of lines.
-pub(crate) const TEXTS: &str = "read: changed
+const TEXTS: &str = "changed
 #EXTM3U | \u{feff}#EXTM3U => NotPlaylist
-#EXTM3U␊ | #EXTM3U\r␊ => 2 2 1
+#EXTM3U␊ | #EXTM3U\r␊ => (2, 2, 1)
 #EXTM3U␊ | #EXTM3U ␊ => NotPlaylist
 RELOAD=YES | RELOAD=NO => BadLine 4
-,CAN-SKIP-DATERANGES=YES |  => 2 2 1
+,CAN-SKIP-DATERANGES=YES |  => (2, 2, 1)
 RANGES=YES | RANGES=NO => BadLine 4
 \"ad 2\" | \"ad 1\" => BadLine 9
 ID=\"ad 2\" | X-A=1 => BadLine 9
-\"ad 2\" | \"ad 2\",X-A=1\r => 2 2 1
-init0.mp4\"␊ | init0.mp4\"\r␊ => 2 2 1
+\"ad 2\" | \"ad 2\",X-A=1\r => (2, 2, 1)
+init0.mp4\"␊ | init0.mp4\"\r␊ => (2, 2, 1)
 init0.mp4 |  => BadLine 10
 init0.mp4\" | init0.mp4\",BYTERANGE=\"1@0\" => BadLine 10
 1970-01-01T00:00:07.000Z |  => BadLine 11
-s7.m4s | sé7.m4s => 2 2 1
-s7.m4s | s7.m4s\r => 2 2 1
+s7.m4s | sé7.m4s => (2, 2, 1)
+s7.m4s | s7.m4s\r => (2, 2, 1)
 s7.m4s | s7.m4s\r\r => BadLine 13
 s7.m4s |  => BadLine 13
 s7.m4s | s7\".m4s => BadLine 13

@@ -1,17 +1,16 @@
-//! Tables of tests. A table is a text: a title, and then a row on each line, with an input, an arrow, and the expected answer. The title names a
-//! group and a question, by which the functions that answer are chosen. Columns of an input are separated by bars. A sign ␊ stands for a line feed.
-//! Blanks count. A row that begins with `begin` makes the bench anew, with the settings after that word.
+//! Tables of tests. A table is a text: a question, and then a row on each line, with an input, an arrow, and the expected answer. Columns of an input
+//! are separated by bars. A sign ␊ stands for a line feed. Blanks count. A row that begins with `begin` makes the bench anew, with the settings after
+//! that word.
 use crate::{
     attr_tests, attribute_tests, directive_tests, fault_tests, feed_tests, item_tests, page_tests,
-    piece_tests, range_tests, read_fault_tests, read_table_tests, read_tests, session_tests,
-    time_tests, want_tests, window_tests, wire_tests,
+    piece_tests, range_tests, read_table_tests, read_tests, session_tests, time_tests, want_tests,
+    window_tests, wire_tests,
 };
 use ll_range::Ranges;
 use ll_settings::Settings;
 use ll_window::Window;
 use std::alloc::{AllocError, Global};
 use std::process::Abort;
-use std::test::Fail;
 
 /// The settings with which each table begins.
 pub(crate) const LINE: &str =
@@ -39,121 +38,135 @@ impl Bench {
     }
 }
 
-const TABLES: [&str; 72] = [
-    attr_tests::WRITTEN,
-    attr_tests::READ,
-    attr_tests::NUMBERS,
-    attr_tests::CUTS,
-    attr_tests::KEYS,
-    attr_tests::TEXTS,
-    attribute_tests::LISTS,
-    attribute_tests::VALUES,
-    attribute_tests::OTHERS,
-    attribute_tests::FAULTS,
-    attribute_tests::EQUAL,
-    time_tests::TURNS,
-    time_tests::CENTURIES,
-    time_tests::LAST,
-    time_tests::DATES,
-    item_tests::SETTINGS,
-    item_tests::LIMITS,
-    item_tests::FAULTS,
-    item_tests::MADE,
-    item_tests::ITEMS,
-    item_tests::NO_ITEMS,
-    range_tests::CHANGES,
-    range_tests::COPIES,
-    range_tests::ATTRIBUTES,
-    range_tests::IDS,
-    window_tests::RULES,
-    window_tests::REFUSALS,
-    window_tests::LEAVING,
-    window_tests::SKIPPED,
-    window_tests::SEGMENTS,
-    window_tests::COPY,
-    want_tests::HELD,
-    want_tests::FAR,
-    directive_tests::DIRECTIVES,
-    directive_tests::FILES,
-    directive_tests::QUERIES,
-    directive_tests::TARGETS,
-    directive_tests::NAMES,
-    directive_tests::MANY,
-    fault_tests::NAMES,
-    page_tests::VIEWS,
-    page_tests::PAGES,
-    page_tests::SHARED,
-    page_tests::OF_ONE,
-    piece_tests::CHANNELS,
-    read_tests::OF_FULL,
-    read_tests::OF_DELTA,
-    read_tests::NUMBERS,
-    read_tests::DURATIONS,
-    read_tests::TEXTS,
-    read_table_tests::HEADERS,
-    read_table_tests::EARLY,
-    read_table_tests::SEGMENTS,
-    read_table_tests::AROUND,
-    read_table_tests::UNENDED,
-    read_table_tests::BYTES,
-    read_fault_tests::FAULTS,
-    feed_tests::STREAMS,
-    feed_tests::LONG,
-    feed_tests::MEDIA,
-    feed_tests::PIECES,
-    feed_tests::REPLIES,
-    session_tests::TALKS,
-    session_tests::CUT,
-    session_tests::HELD,
-    session_tests::SENT,
-    wire_tests::HEADS,
-    wire_tests::LIMITS,
-    wire_tests::TARGETS,
-    wire_tests::LENGTHS,
-    wire_tests::WHOLE,
-    wire_tests::PLAYLISTS,
-];
+/// Tables that the same functions answer.
+pub(crate) trait Group {
+    /// Appends the answer to the input of a row under this question.
+    fn add_answer(
+        &self,
+        alloc: Global,
+        bench: &mut Bench,
+        told: &mut String,
+        question: &str,
+        input: &str,
+    ) -> Result<(), AllocError>;
+}
 
 #[test]
-fn rows_have_their_answers(rt: HostRuntime) -> Result<(), Fail> {
-    for table in TABLES {
-        check(&rt, rt.alloc(), table)?;
-    }
-    Ok(())
+fn texts_have_their_answers(rt: HostRuntime) {
+    check(&rt, rt.alloc(), &attr_tests::Texts, &attr_tests::TABLES);
+    check(
+        &rt,
+        rt.alloc(),
+        &attribute_tests::Lists,
+        &attribute_tests::TABLES,
+    );
+    check(&rt, rt.alloc(), &time_tests::Times, &time_tests::TABLES);
 }
 
-fn check(rt: &impl Abort, alloc: Global, table: &str) -> Result<(), AllocError> {
-    let (title, rows) = table.split_once('\n').unwrap_or((table, "no row"));
-    match Bench::new(alloc, LINE) {
-        Some(mut bench) => check_rows(rt, alloc, &mut bench, title, rows),
-        None => Err(AllocError),
+#[test]
+fn items_have_their_answers(rt: HostRuntime) {
+    check(&rt, rt.alloc(), &item_tests::Items, &item_tests::TABLES);
+    check(
+        &rt,
+        rt.alloc(),
+        &range_tests::DateRanges,
+        &range_tests::TABLES,
+    );
+    check(
+        &rt,
+        rt.alloc(),
+        &window_tests::Windows,
+        &window_tests::TABLES,
+    );
+    check(&rt, rt.alloc(), &want_tests::Wants, &want_tests::TABLES);
+}
+
+#[test]
+fn playlists_have_their_answers(rt: HostRuntime) {
+    check(&rt, rt.alloc(), &page_tests::Views, &page_tests::TABLES);
+    check(&rt, rt.alloc(), &piece_tests::Joins, &piece_tests::TABLES);
+    check(&rt, rt.alloc(), &read_tests::Playlists, &read_tests::TABLES);
+    check(
+        &rt,
+        rt.alloc(),
+        &read_table_tests::LineOrders,
+        &read_table_tests::TABLES,
+    );
+}
+
+#[test]
+fn requests_have_their_answers(rt: HostRuntime) {
+    check(
+        &rt,
+        rt.alloc(),
+        &directive_tests::Directives,
+        &directive_tests::TABLES,
+    );
+    check(&rt, rt.alloc(), &fault_tests::Faults, &fault_tests::TABLES);
+    check(
+        &rt,
+        rt.alloc(),
+        &session_tests::Sessions,
+        &session_tests::TABLES,
+    );
+    check(&rt, rt.alloc(), &wire_tests::Heads, &wire_tests::TABLES);
+}
+
+#[test]
+fn publishers_lines_have_their_answers(rt: HostRuntime) {
+    check(&rt, rt.alloc(), &feed_tests::Feeds, &feed_tests::TABLES);
+}
+
+fn check<G: Group>(rt: &impl Abort, alloc: Global, group: &G, tables: &[&str]) {
+    for table in tables {
+        check_table(rt, alloc, group, table);
     }
 }
 
-fn check_rows(
+fn check_table<G: Group>(rt: &impl Abort, alloc: Global, group: &G, table: &str) {
+    let (question, rows) = table.split_once('\n').unwrap_or((table, "no row"));
+    let mut bench = Bench::new(alloc, LINE).expect(rt, "the settings are read");
+    check_rows(rt, alloc, group, &mut bench, question, rows).expect(rt, "memory is there");
+}
+
+fn check_rows<G: Group>(
     rt: &impl Abort,
     alloc: Global,
+    group: &G,
     bench: &mut Bench,
-    title: &str,
+    question: &str,
     rows: &str,
 ) -> Result<(), AllocError> {
     for row in rows.split('\n') {
-        let row = row.replace(alloc, "␊", "\n")?;
-        check_row(rt, alloc, bench, title, row.as_str())?;
+        check_row(rt, alloc, group, bench, question, row)?;
     }
     Ok(())
 }
 
-/// Compares the answer to the input of a row with what stands after the arrow.
-fn check_row(
+fn check_row<G: Group>(
     rt: &impl Abort,
     alloc: Global,
+    group: &G,
     bench: &mut Bench,
-    title: &str,
+    question: &str,
+    row: &str,
+) -> Result<(), AllocError> {
+    let row = row.replace(alloc, "␊", "\n")?;
+    check_answer(rt, alloc, group, bench, question, row.as_str())
+}
+
+/// Compares the answer to the input of a row with what stands after the arrow.
+fn check_answer<G: Group>(
+    rt: &impl Abort,
+    alloc: Global,
+    group: &G,
+    bench: &mut Bench,
+    question: &str,
     row: &str,
 ) -> Result<(), AllocError> {
     let (input, answer) = row.rsplit_once(" => ").unwrap_or((row, "an arrow"));
-    let told = told(alloc, bench, title, input)?;
+    let mut told = String::new(alloc);
+    add_told(alloc, group, bench, &mut told, question, input)?;
     compare(rt, row, told.as_str(), answer);
     Ok(())
 }
@@ -162,14 +175,19 @@ fn compare(rt: &impl Abort, row: &str, told: &str, answer: &str) {
     assert!(rt; told == answer, "at {row}: {told}");
 }
 
-/// Returns the answer to an input.
-fn told(alloc: Global, bench: &mut Bench, title: &str, input: &str) -> Result<String, AllocError> {
-    let mut told = String::new(alloc);
+/// Appends the answer to an input.
+fn add_told<G: Group>(
+    alloc: Global,
+    group: &G,
+    bench: &mut Bench,
+    told: &mut String,
+    question: &str,
+    input: &str,
+) -> Result<(), AllocError> {
     match input.strip_prefix("begin ") {
-        Some(line) => begin(alloc, bench, &mut told, line)?,
-        None => add_answer(alloc, bench, &mut told, title, input)?,
+        Some(line) => begin(alloc, bench, told, line),
+        None => group.add_answer(alloc, bench, told, question, input),
     }
-    Ok(told)
 }
 
 /// Makes the bench anew.
@@ -185,36 +203,6 @@ fn begin(
             told.push_str("begun")
         }
         None => told.push_str("no settings"),
-    }
-}
-
-fn add_answer(
-    alloc: Global,
-    bench: &mut Bench,
-    told: &mut String,
-    title: &str,
-    input: &str,
-) -> Result<(), AllocError> {
-    let (group, question) = title.split_once(": ").unwrap_or(("", title));
-    match group {
-        "text" => attr_tests::add_answer(alloc, told, question, input),
-        "list" => attribute_tests::add_answer(alloc, told, question, input),
-        "time" => time_tests::add_answer(told, question, input),
-        "item" => item_tests::add_answer(alloc, bench, told, question, input),
-        "range" => range_tests::add_answer(alloc, bench, told, question, input),
-        "window" => window_tests::add_answer(alloc, bench, told, question, input),
-        "want" => want_tests::add_answer(alloc, bench, told, question, input),
-        "directive" => directive_tests::add_answer(alloc, told, question, input),
-        "fault" => fault_tests::add_answer(told, input),
-        "page" => page_tests::add_answer(alloc, told, question, input),
-        "piece" => piece_tests::add_answer(alloc, told, input),
-        "read" => read_tests::add_answer(alloc, told, question, input),
-        "lines" => read_table_tests::add_answer(alloc, told, question, input),
-        "read fault" => read_fault_tests::add_answer(told, input),
-        "feed" => feed_tests::add_answer(alloc, told, question, input),
-        "session" => session_tests::add_answer(alloc, told, question, input),
-        "wire" => wire_tests::add_answer(alloc, told, question, input),
-        _ => told.push_str("no such group"),
     }
 }
 

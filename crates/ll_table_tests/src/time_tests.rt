@@ -1,20 +1,41 @@
 //! Tables of UTC times and dates. The expected times and milliseconds are those of Python's `datetime`.
-use crate::rows::number;
+use crate::rows::{Bench, Group, number};
 use ll_format::{UtcTime, is_date_time};
-use std::alloc::AllocError;
+use std::alloc::{AllocError, Global};
 
-pub(crate) fn add_answer(told: &mut String, question: &str, input: &str) -> Result<(), AllocError> {
-    if question == "date" {
-        return write!(told, "{}", is_date_time(input));
+pub(crate) const TABLES: [&str; 4] = [TURNS, CENTURIES, LAST, DATES];
+
+pub(crate) struct Times;
+
+impl Group for Times {
+    fn add_answer(
+        &self,
+        _alloc: Global,
+        _bench: &mut Bench,
+        told: &mut String,
+        question: &str,
+        input: &str,
+    ) -> Result<(), AllocError> {
+        match question {
+            "date" => add_date(told, input),
+            _ => add_time(told, number(input, 0)),
+        }
     }
-    match UtcTime::at(number(input, 0)) {
+}
+
+fn add_date(told: &mut String, input: &str) -> Result<(), AllocError> {
+    write!(told, "{}", is_date_time(input))
+}
+
+fn add_time(told: &mut String, ms: u64) -> Result<(), AllocError> {
+    match UtcTime::at(ms) {
         Some(time) => write!(told, "{time}"),
         None => told.push_str("None"),
     }
 }
 
 /// Milliseconds at turns of days, months and years, and the time.
-pub(crate) const TURNS: &str = "time: time
+const TURNS: &str = "time
 0 => 1970-01-01T00:00:00.000Z
 999 => 1970-01-01T00:00:00.999Z
 31449600000 => 1970-12-31T00:00:00.000Z
@@ -30,7 +51,7 @@ pub(crate) const TURNS: &str = "time: time
 253402300799999 => 9999-12-31T23:59:59.999Z";
 
 /// A moment in each quarter of a millennium.
-pub(crate) const CENTURIES: &str = "time: time
+const CENTURIES: &str = "time
 2564373990098 => 2051-04-06T06:06:30.098Z
 9113369642070 => 2258-10-16T19:34:02.070Z
 20992277960572 => 2635-03-22T04:19:20.572Z
@@ -65,13 +86,13 @@ pub(crate) const CENTURIES: &str = "time: time
 248432428716841 => 9842-07-06T07:58:36.841Z";
 
 /// No time is later than the year 9999.
-pub(crate) const LAST: &str = "time: time
+const LAST: &str = "time
 253402300799999 => 9999-12-31T23:59:59.999Z
 253402300800000 => None
 18446744073709551615 => None";
 
 /// A text, and whether it is a date with a time and an offset.
-pub(crate) const DATES: &str = "time: date
+const DATES: &str = "date
 2024-02-29T12:34:56Z => true
 2000-02-29T00:00:00Z => true
 0000-01-01T00:00:00Z => true

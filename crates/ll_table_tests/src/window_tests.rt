@@ -1,26 +1,33 @@
 //! Tables of windows. Items are words: `b` for a break, `b5000` for one that sets this time, `F` for a finish, `e` for the end, `1000000` for a part
 //! of this many microseconds, `1000000f` for one that finishes its segment, and `7x1000000f` for seven of them. The largest Media Sequence Number is
 //! 1152921504606846976, and the last millisecond of the year 9999 is 253402300799999.
-use crate::rows::{Bench, column};
+use crate::rows::{Bench, Group, column};
 use ll_item::{Item, Media, PartItem};
-use ll_window::{PushError, Window};
+use ll_window::{PushError, Segment, Window};
 use std::alloc::{AllocError, Global};
 
-pub(crate) fn add_answer(
-    alloc: Global,
-    bench: &mut Bench,
-    told: &mut String,
-    question: &str,
-    input: &str,
-) -> Result<(), AllocError> {
-    if question == "step" {
-        add_step(told, &mut bench.window, input)?;
-        return add_state(told, &bench.window);
-    }
-    bench.window = Window::new(alloc, &bench.settings)?;
-    match push(&mut bench.window, column(input, 0)) {
-        Ok(()) => add_told(told, &mut bench.window, question, column(input, 1)),
-        Err(error) => write!(told, "{error}"),
+pub(crate) const TABLES: [&str; 6] = [RULES, REFUSALS, LEAVING, SKIPPED, SEGMENTS, COPY];
+
+pub(crate) struct Windows;
+
+impl Group for Windows {
+    fn add_answer(
+        &self,
+        alloc: Global,
+        bench: &mut Bench,
+        told: &mut String,
+        question: &str,
+        input: &str,
+    ) -> Result<(), AllocError> {
+        if question == "step" {
+            add_step(told, &mut bench.window, input)?;
+            return add_state(told, &bench.window);
+        }
+        bench.window = Window::new(alloc, &bench.settings)?;
+        match push(&mut bench.window, column(input, 0)) {
+            Ok(()) => add_told(told, &mut bench.window, question, column(input, 1)),
+            Err(error) => write!(told, "{error}"),
+        }
     }
 }
 
@@ -34,7 +41,7 @@ fn add_told(
     match question {
         "rule" => add_step(told, window, word),
         "first" => add_first(told, window),
-        "skipped" => write!(told, "{}", window.skip_count()),
+        "skipped" => add_skipped(told, window),
         "segments" => add_breaks_and_segments(told, window),
         _ => add_copied(told, window, word),
     }
@@ -42,12 +49,16 @@ fn add_told(
 
 /// Returns the item of a word.
 fn item(word: &str) -> Item {
-    if let Some(time) = word.strip_prefix('b') {
-        return Item::Break {
+    match word.strip_prefix('b') {
+        Some(time) => Item::Break {
             rendition: 0,
             time: time.parse::<u64>().ok(),
-        };
+        },
+        None => item_without_time(word),
     }
+}
+
+fn item_without_time(word: &str) -> Item {
     match word {
         "F" => Item::Finish { rendition: 0 },
         "e" => Item::End { rendition: 0 },
@@ -62,7 +73,7 @@ fn item(word: &str) -> Item {
 }
 
 /// Publishes the items of `words`.
-fn push(window: &mut Window, words: &str) -> Result<(), PushError> {
+pub(crate) fn push(window: &mut Window, words: &str) -> Result<(), PushError> {
     for word in words.split_whitespace() {
         let (times, word) = word.split_once('x').unwrap_or(("1", word));
         push_times(window, times.parse::<u64>().unwrap_or(0), word)?;
@@ -78,7 +89,7 @@ fn push_times(window: &mut Window, times: u64, word: &str) -> Result<(), PushErr
 }
 
 /// Items, an item after them, and the results of its test and of its publication.
-pub(crate) const RULES: &str = "window: rule
+const RULES: &str = "rule
 begin channel cam target=1 part=1000000 skip=6 window=9 renditions=hi first=0 start=0 => begun
  | 0f => (Err(BadDuration), Err(BadDuration))
  | 1f => (Ok(()), Ok(()))
@@ -136,7 +147,7 @@ begin channel cam target=1 part=1000000 skip=6 window=9 renditions=hi first=1152
 
 /// An item after those of the rows above, the results of its test and of its publication, and the state of the window then. A refused item changes
 /// nothing.
-pub(crate) const REFUSALS: &str = "window: step
+const REFUSALS: &str = "step
 begin channel cam target=1 part=1000000 skip=6 window=9 renditions=hi first=7 start=0 => begun
 1000000f => (Ok(()), Ok(())) (1, 0, 8, 1000000, 0, Some(PartPosition { number: 7, index: 0 }), false)
 1000000 => (Ok(()), Ok(())) (1, 1, 8, 2000000, 0, Some(PartPosition { number: 8, index: 0 }), false)
@@ -178,29 +189,27 @@ fn add_state(told: &mut String, window: &Window) -> Result<(), AllocError> {
 
 /// Segments of one part each, as many as stands before each duration, and an open part; how many segments the window has then, and the number and the
 /// time of the first.
-pub(crate) const LEAVING: &str = "window: first
+const LEAVING: &str = "first
 begin channel cam target=1 part=1000000 skip=6 window=9 renditions=hi first=7 start=1 => begun
-2x1000000f 7x1000000f 1x999999f 1000000 => 10 7 1000
-1x1000000f 8x1000000f 1x1000000f 1000000 => 9 8 1001000
-9x1000000f 1x999999f 1x1f 1000000 => 10 8 1001000
-3x1f 8x1000000f 1x999999f 1000000 => 10 9 1002
-3x1f 8x1000000f 1x1000000f 1000000 => 9 10 1003";
+2x1000000f 7x1000000f 1x999999f 1000000 => (10, 7, 1000)
+1x1000000f 8x1000000f 1x1000000f 1000000 => (9, 8, 1001000)
+9x1000000f 1x999999f 1x1f 1000000 => (10, 8, 1001000)
+3x1f 8x1000000f 1x999999f 1000000 => (10, 9, 1002)
+3x1f 8x1000000f 1x1000000f 1000000 => (9, 10, 1003)";
 
 fn add_first(told: &mut String, window: &Window) -> Result<(), AllocError> {
     match window.segment(0) {
-        Some(first) => write!(
-            told,
-            "{} {} {}",
-            window.segment_count(),
-            first.number,
-            first.time
-        ),
+        Some(first) => add_first_of(told, window.segment_count(), &first),
         None => told.push_str("no segment"),
     }
 }
 
+fn add_first_of(told: &mut String, count: usize, first: &Segment) -> Result<(), AllocError> {
+    write!(told, "{:?}", (count, first.number, first.time))
+}
+
 /// Segments of a second each, an open part, and how many segments are skipped with a Skip Boundary of 6 s.
-pub(crate) const SKIPPED: &str = "window: skipped
+const SKIPPED: &str = "skipped
 begin channel cam target=1 part=1000000 skip=6 window=9 renditions=hi first=0 start=0 => begun
 6x1000000f 1000000 => 0
 7x1000000f 1 => 1
@@ -208,8 +217,12 @@ begin channel cam target=1 part=1000000 skip=6 window=9 renditions=hi first=0 st
 9x1000000f 1000000 => 3
 12x1000000f 1000000 => 3";
 
+fn add_skipped(told: &mut String, window: &Window) -> Result<(), AllocError> {
+    write!(told, "{}", window.skip_count())
+}
+
 /// Items, how many broken segments have left then, and the segments of the window.
-pub(crate) const SEGMENTS: &str = "window: segments
+const SEGMENTS: &str = "segments
 begin channel cam target=1 part=1000000 skip=6 window=9 renditions=hi first=7 start=1 => begun
 b 1000000f b 500000 250000f 1000000f b 750000 => 0: (7, true, 1, 1000, 1000000, 1)(8, true, 2, 1001000, 750000, 2)(9, false, 2, 1751000, 1000000, 1)(10, true, 3, 2751000, 750000, 0)
 b5000 1000000f b 500000 F b6600 b7000 b 750000 => 0: (7, true, 1, 5000000, 1000000, 1)(8, true, 2, 6000000, 500000, 1)(9, true, 3, 7000000, 750000, 0)
@@ -223,30 +236,48 @@ fn add_breaks_and_segments(told: &mut String, window: &Window) -> Result<(), All
     add_segments(told, window)
 }
 
-/// Appends the segments of a window, the open one last: the number, whether it is broken, the map number, the time, the duration, and how many parts
-/// are listed.
+/// Appends the segments of a window, the open one last.
 fn add_segments(told: &mut String, window: &Window) -> Result<(), AllocError> {
     for place in 0..=window.segment_count() {
-        let listed = window.shown_parts(place).len();
-        if let Some(s) = window.segment(place).or(window.open_segment()) {
-            let segment = (s.number, s.broken, s.map_number, s.time, s.duration, listed);
-            write!(told, "{segment:?}")?;
-        }
+        add_segment(told, window, place)?;
     }
     Ok(())
 }
 
+/// Appends a segment of a window, or the open one if there is none at `place`: the number, whether it is broken, the map number, the time, the
+/// duration, and how many parts are listed.
+fn add_segment(told: &mut String, window: &Window, place: usize) -> Result<(), AllocError> {
+    let listed = window.shown_parts(place).len();
+    match window.segment(place).or(window.open_segment()) {
+        Some(s) => write!(
+            told,
+            "{:?}",
+            (s.number, s.broken, s.map_number, s.time, s.duration, listed)
+        ),
+        None => Ok(()),
+    }
+}
+
 /// Items, and a later one; the segments of the copy and of the window before the later item, and after it.
-pub(crate) const COPY: &str = "window: copy
+const COPY: &str = "copy
 begin channel cam target=1 part=1000000 skip=6 window=9 renditions=hi first=7 start=0 => begun
 1000000f b 1000000 | 1 => (7, false, 0, 0, 1000000, 1)(8, true, 1, 1000000, 1000000, 0) (7, false, 0, 0, 1000000, 1)(8, true, 1, 1000000, 1000000, 0) - (7, false, 0, 0, 1000000, 1)(8, true, 1, 1000000, 1000000, 0) (7, false, 0, 0, 1000000, 1)(8, true, 1, 1000000, 1000001, 0)";
 
 fn add_copied(told: &mut String, window: &mut Window, later: &str) -> Result<(), AllocError> {
     let copy = window.copy()?;
-    add_both(told, &copy, window)?;
+    add_copy(told, &copy, window, later)
+}
+
+fn add_copy(
+    told: &mut String,
+    copy: &Window,
+    window: &mut Window,
+    later: &str,
+) -> Result<(), AllocError> {
+    add_both(told, copy, window)?;
     told.push_str(" - ")?;
     match push(window, later) {
-        Ok(()) => add_both(told, &copy, window),
+        Ok(()) => add_both(told, copy, window),
         Err(error) => write!(told, "{error}"),
     }
 }

@@ -1,30 +1,38 @@
 //! Tables of the heads of requests, and of responses.
-use crate::pages::page_of_one_part;
-use crate::rows::{bytes, column, number};
+use crate::page_tests::page_of_one_part;
+use crate::rows::{Bench, Group, bytes, column, number};
 use ll_directive::TargetFault;
 use ll_page::Page;
 use ll_verdict::{AskFault, Reply};
-use ll_wire::{Answer, HeadFault, next_head, response};
+use ll_wire::{Answer, HeadFault, Response, next_head, response};
 use std::alloc::{AllocError, Global};
 
-pub(crate) fn add_answer(
-    alloc: Global,
-    told: &mut String,
-    question: &str,
-    input: &str,
-) -> Result<(), AllocError> {
-    match question {
-        "head" => write!(told, "{:?}", next_head(input.as_bytes())),
-        "limit" => add_limit(alloc, told, input),
-        "bytes" => add_head_of_bytes(alloc, told, input),
-        "method" => add_method(alloc, told),
-        "playlist" => add_playlist(alloc, told),
-        _ => add_length(alloc, told, input),
+pub(crate) const TABLES: [&str; 6] = [HEADS, LIMITS, TARGETS, LENGTHS, WHOLE, PLAYLISTS];
+
+pub(crate) struct Heads;
+
+impl Group for Heads {
+    fn add_answer(
+        &self,
+        alloc: Global,
+        _bench: &mut Bench,
+        told: &mut String,
+        question: &str,
+        input: &str,
+    ) -> Result<(), AllocError> {
+        match question {
+            "head" => add_head(told, input.as_bytes()),
+            "limit" => add_limit(alloc, told, input),
+            "bytes" => add_head_of_bytes(alloc, told, input),
+            "method" => add_method(alloc, told),
+            "playlist" => add_playlist(alloc, told),
+            _ => add_length(alloc, told, input),
+        }
     }
 }
 
 /// Bytes, and the head at their front.
-pub(crate) const HEADS: &str = "wire: head
+const HEADS: &str = "head
 GET /a HTTP/1.1\r␊Host: a\r␊\r␊ => Whole(28, Request { from: 4, to: 6, keep: true })
 GET /a HTTP/1.1\r␊Host: a\r␊\r␊GET /b => Whole(28, Request { from: 4, to: 6, keep: true })
 GET /a?_HLS_msn=3 HTTP/1.1␊host:a␊␊ => Whole(35, Request { from: 4, to: 17, keep: true })
@@ -81,8 +89,12 @@ POST /a HTTP/1.1\r␊Content-Length: 1\r␊\r␊ => Bad(BadHost)
 POST /a HTTP/1.1\r␊Host: a\r␊Content-Length: 1\r␊\r␊ => Bad(BadMethod)
 POST /a HTTP/1.1\r␊Host: a\r␊\x02 => Bad(BadHead)";
 
+fn add_head(told: &mut String, bytes: &[u8]) -> Result<(), AllocError> {
+    write!(told, "{:?}", next_head(bytes))
+}
+
 /// A prefix, how often the next text comes, that text, and an end; then the head at the front of them all.
-pub(crate) const LIMITS: &str = "wire: limit
+const LIMITS: &str = "limit
 GET /a HTTP/1.1\r␊Host: a\r␊ | 63 | a: 1\r␊ | \r␊ => Whole(406, Request { from: 4, to: 6, keep: true })
 GET /a HTTP/1.1\r␊Host: a\r␊ | 64 | a: 1\r␊ | \r␊ => Bad(HeadTooLarge)
 GET /a HTTP/1.1\r␊Host: a\r␊ | 64 | a: 1\r␊ |  => Part
@@ -102,11 +114,11 @@ GET / | 8165 | a |  HTTP/1.1\r␊Host: a\r␊\r␊ => Whole(8192, Request { from
 fn add_limit(alloc: Global, told: &mut String, input: &str) -> Result<(), AllocError> {
     let middle = column(input, 2).repeat(alloc, number(input, 1) as usize)?;
     let text = format!(in alloc; "{}{middle}{}", column(input, 0), column(input, 3))?;
-    write!(told, "{:?}", next_head(text.as_str().as_bytes()))
+    add_head(told, text.as_str().as_bytes())
 }
 
 /// Targets, in which bytes that are no UTF-8 are refused only at the end.
-pub(crate) const TARGETS: &str = "wire: bytes
+const TARGETS: &str = "bytes
 GET /\u{ff} => Part
 GET /\u{ff}\u{ff}x => Part
 GET /\u{c3}\u{a4} HTTP/1.1\r␊Host:\r␊\r␊ => Whole(27, Request { from: 4, to: 7, keep: true })
@@ -116,7 +128,7 @@ POST\u{ff} => Bad(BadHead)";
 
 fn add_head_of_bytes(alloc: Global, told: &mut String, input: &str) -> Result<(), AllocError> {
     let bytes = bytes(alloc, input)?;
-    write!(told, "{:?}", next_head(&bytes))
+    add_head(told, &bytes)
 }
 
 fn answer(name: &str) -> Answer {
@@ -132,19 +144,23 @@ fn answer(name: &str) -> Answer {
 }
 
 /// An answer, whether the connection is kept, and the lengths of its head and of its body.
-pub(crate) const LENGTHS: &str = "wire: length
-BadHost | shut => 125 0
-BadMethod | shut => 147 0
-HeadTooLarge | shut => 151 0
-target NotFound | kept => 129 0
-NotFound | kept => 129 0
-Busy | shut => 130 0
-RecordFull | shut => 137 0";
+const LENGTHS: &str = "length
+BadHost | shut => (125, 0)
+BadMethod | shut => (147, 0)
+HeadTooLarge | shut => (151, 0)
+target NotFound | kept => (129, 0)
+NotFound | kept => (129, 0)
+Busy | shut => (130, 0)
+RecordFull | shut => (137, 0)";
 
 fn add_length(alloc: Global, told: &mut String, input: &str) -> Result<(), AllocError> {
-    let keep = column(input, 1) == "kept";
-    let message = response(alloc, &answer(column(input, 0)), keep)?;
-    write!(told, "{} {}", message.head.len(), message.body.len())
+    let answer = answer(column(input, 0));
+    let message = response(alloc, &answer, column(input, 1) == "kept")?;
+    add_lengths(told, &message)
+}
+
+fn add_lengths(told: &mut String, message: &Response) -> Result<(), AllocError> {
+    write!(told, "{:?}", (message.head.len(), message.body.len()))
 }
 
 const METHOD: &str =
@@ -155,7 +171,7 @@ const PLAYLIST: &str =
 
 /// An answer after which the connection is kept: whether its head is the one above; in the next table also how long its playlist is, and whether its
 /// body is that.
-pub(crate) const WHOLE: &str = "wire: method
+const WHOLE: &str = "method
 BadMethod => true";
 
 fn add_method(alloc: Global, told: &mut String) -> Result<(), AllocError> {
@@ -163,8 +179,8 @@ fn add_method(alloc: Global, told: &mut String) -> Result<(), AllocError> {
     write!(told, "{}", message.head.as_slice() == METHOD.as_bytes())
 }
 
-pub(crate) const PLAYLISTS: &str = "wire: playlist
-of one part => true 426 true";
+const PLAYLISTS: &str = "playlist
+of one part => (true, 426, true)";
 
 fn add_playlist(alloc: Global, told: &mut String) -> Result<(), AllocError> {
     match page_of_one_part(alloc)? {
@@ -174,10 +190,22 @@ fn add_playlist(alloc: Global, told: &mut String) -> Result<(), AllocError> {
 }
 
 fn add_playlist_of(alloc: Global, told: &mut String, page: &Page) -> Result<(), AllocError> {
-    let message = response(alloc, &Answer::Reply(Reply::Text(page.again()?)), true)?;
-    let text = page.text().as_bytes();
+    let answer = Answer::Reply(Reply::Text(page.again()?));
+    add_response(alloc, told, &answer, page.text().as_bytes())
+}
+
+fn add_response(
+    alloc: Global,
+    told: &mut String,
+    answer: &Answer,
+    text: &[u8],
+) -> Result<(), AllocError> {
+    let message = response(alloc, answer, true)?;
+    add_parts(told, &message, text)
+}
+
+fn add_parts(told: &mut String, message: &Response, text: &[u8]) -> Result<(), AllocError> {
     let is_head = message.head.as_slice() == PLAYLIST.as_bytes();
     let (_, body, _) = message.after(message.head.len()).pieces();
-    let is_body = body == text;
-    write!(told, "{is_head} {} {is_body}", text.len())
+    write!(told, "{:?}", (is_head, text.len(), body == text))
 }
