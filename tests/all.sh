@@ -49,6 +49,14 @@ finish() {
     commands=() waiting=0
 }
 
+# minutes WORD..: prints how long this run has taken so far, and what its commands that have ended took of processors.
+minutes() {
+    local user system
+    times >"$room/times"
+    { read -r && read -r user system; } <"$room/times"
+    echo "== $*: $((SECONDS / 60)) min, of processors $((${user%m*} + ${system%m*})) min"
+}
+
 start tests/edits_apply.py
 start tests/listed.py
 start tests/build_lines.sh
@@ -83,6 +91,7 @@ if [ -e "$by_rattle" ]; then
     start tests/rows.sh "$by_rattle"
 fi
 wait "$proofs"
+minutes 'all is proved'
 add "$(<"$room/proofs.status")" "$room/proofs" rt ci
 # `rt ci` passes over an edit that doesn't compile, which says nothing of a contract.
 if grep -q '\.edit: BAD EDIT' "$room/proofs"; then
@@ -93,4 +102,5 @@ finish
 for name in serve.py edge.py watch.py page.py; do
     show "tests/$name" "$program"
 done
+minutes 'all is tested'
 told_all

@@ -43,37 +43,61 @@ keeps() {
 }
 
 # prove_chain FOLDER FILE: proves the crates of FILE, which has the form of crates.txt, in copies below FOLDER, those of the longest chain of what stands
-# on what first of all. Some proofs may go on when it ends; the caller proves what is left. `lanes` is how many crates are proved side by side, or empty
-# for as many as `rt ci` finds memory for.
+# on what first of all. Some proofs may go on when it ends; the caller proves what is left. `lanes` is how many processors there are for crates side by
+# side, or empty for as many as `rt ci` finds memory for.
 #
-# Most crates wait for one another in that chain. A run of `rt ci` divides the processors among the crates that are ready in it, and once it has proved
-# one, it takes the next before another run can. So the chain has runs of its own, in which few crates are ready: one up to each second crate, and one
-# for each crate in which it ends. Beside these are niced runs, over what doesn't stand on the chain's second crate, later on its middle, and at last on
-# the one below its ends. Each takes what another proves.
+# Most crates wait for one another in that chain. So the crates that its last one stands on have a run of their own, which divides the processors among
+# those that are ready. Beside it, niced runs take the processors that it leaves idle, over what can be proved next without that run. Then come the
+# crates in which the chain ends. Each run takes what another has proved.
 prove_chain() {
-    local chain ends count at crate last=()
+    local chain ends crate last=()
     # If the kit keeps nothing, each run would begin anew.
     keeps "$1/tiny" || return 0
     { read -ra chain && read -ra ends; } < <(longest_chain <"$2")
-    count=${#chain[@]}
-    # This uses the processors that the chain's first crates leave idle, unless these were proved before.
-    (sleep 5 && ! grep -qs ' is kept: ' "$1/chain.log" && prove_rest "$1/first" "$2" "${chain[1]-}") &
-    for ((at = 2 - (count - 1) % 2; at < count; at += 2)); do
-        crate=${chain[at]}
-        prove "$1/$crate" "$crate" | tee "$1/chain.log"
-        if [ "$at" -le 2 ]; then
-            # If the chain's first crates were proved before, little is left.
-            grep -q ' proved$' "$1/chain.log" || return 0
-            prove_rest "$1/second" "$2" "${chain[count / 2]}" &
-        elif [ $((at / 2)) = $((count / 4)) ]; then
-            prove_rest "$1/third" "$2" "${chain[count - 1]}" &
-        fi
-    done
+    : >"$1/chain.log"
+    prove_beside "$1" "$2" "${chain[@]}" &
+    prove "$1/chain" "${chain[-1]}" | tee -a "$1/chain.log"
+    touch "$1/chain.done"
     for crate in "${ends[@]}"; do
         prove "$1/$crate" "$crate" &
         last+=($!)
     done
     wait "${last[@]}"
+}
+
+# prove_beside FOLDER FILE CRATE..: proves what the last of these crates, each of which stands on the one before, doesn't stand on: once one of them is
+# proved in the run whose output is FOLDER/chain.log, what can be proved before the next.
+prove_beside() {
+    local chain=("${@:3}") spine done= names crate at
+    spine=" $(below "${chain[-1]}" <"$2" | tr '\n' ' ')"
+    # If the first crates were proved before, perhaps all were.
+    at=0
+    while [ $((at += 1)) -le 15 ] || { grep -q ' is kept: ' "$1/chain.log" && ! grep -q ' proved$' "$1/chain.log"; }; do
+        [ ! -e "$1/chain.done" ] || return 0
+        sleep 1
+    done
+    for ((at = -1; at < ${#chain[@]} - 1; at++)); do
+        if [ "$at" -ge 0 ]; then
+            until [ -e "$1/chain.done" ] || grep -Eq "^rt: ${chain[at]} (proved$|is kept: )" "$1/chain.log"; do
+                sleep 1
+            done
+        fi
+        names=
+        for crate in $(without "${chain[at + 1]}" <"$2"); do
+            case " $done " in *" $crate "*) continue ;; esac
+            if [[ $spine != *" $crate "* ]] || [ -d "${2%crates.txt}crates/$crate/must-fail" ]; then
+                names+=" $crate"
+            fi
+        done
+        done+=$names
+        if [ -n "$names" ]; then
+            # (more at once would take too much memory)
+            while [ "$(jobs -rp | wc -l)" -ge 2 ]; do
+                wait -n
+            done
+            prove_rest "$1/beside$at" "$2" $names &
+        fi
+    done
 }
 
 # longest_chain: reads lines of crates.txt on standard input. Prints the longest chain of crates that stand on one another, without its last, and then a
@@ -104,21 +128,35 @@ longest_chain() {
         }'
 }
 
-# prove_rest FOLDER FILE NAME: proves the crates of FILE that don't stand on NAME, in a copy at FOLDER, and tries their must-fail edits, which are
-# found beside FILE.
+# below NAME: reads lines of crates.txt on standard input, and prints the name, and those of the crates that it stands on.
+below() {
+    awk -F '[: ]+' -v name="$1" '
+        { sub(/ *#.*/, "") }
+        $1 == "" { next }
+        { crate[++count] = $1; line[count] = $0 }
+        END {
+            wanted[name] = 1
+            for (n = count; n; n--)
+                if (crate[n] in wanted) {
+                    print crate[n]
+                    many = split(line[n], list)
+                    for (at = 2; at <= many; at++) wanted[list[at]] = 1
+                }
+        }'
+}
+
+# prove_rest FOLDER FILE NAME..: proves these crates of FILE, in a copy at FOLDER, and tries their must-fail edits, which are found beside FILE.
 prove_rest() {
-    local crate crates
+    local crate
     renice -n 19 "$BASHPID" >/dev/null
-    crates=$(without "$3" <"$2")
-    copy_crates "$1" $crates
-    for crate in $crates; do
+    copy_crates "$1" "${@:3}"
+    for crate in "${@:3}"; do
         if [ -d "${2%crates.txt}crates/$crate/must-fail" ]; then
             cp -r "${2%crates.txt}crates/$crate/must-fail" "$1/crates/$crate"
         fi
     done
-    # The run beside this one begins first.
-    sleep 5
-    cd "$1" && RT_JOBS=$lanes rt ci
+    # Two of these runs can go on at once.
+    cd "$1" && RT_JOBS=${lanes:+$(((3 * lanes + 3) / 4))} rt ci
 }
 
 # without NAME: reads lines of crates.txt on standard input, and prints the names of the crates that don't stand on NAME.
