@@ -2,15 +2,15 @@
 #![tactic(auto)]
 
 #[cfg(test)]
-mod cases;
+mod call_tests;
+#[cfg(test)]
+mod calls;
 #[cfg(test)]
 mod crowd_tests;
 #[cfg(test)]
 mod expected;
 #[cfg(test)]
-mod fault_tests;
-#[cfg(test)]
-mod hub_tests;
+mod hubs;
 #[cfg(test)]
 mod publish_tests;
 #[cfg(test)]
@@ -20,6 +20,6 @@ mod record_tests;
 #[cfg(test)]
 mod rows;
 #[cfg(test)]
-mod thread_tests;
+mod scripts;
 #[cfg(test)]
-mod time_tests;
+mod thread_tests;

@@ -1,13 +1,12 @@
-//! Tests that publish in one of two channels, and compare what that channel answers after each item with what is expected.
+//! A test that publishes in one of three channels, and compares what that channel answers after each item with what is expected.
 ghost use Rattle.std.specs.Prelude.{◌≡◌};
 
-use crate::cases::{DOOR, Silent, Stopped, finished_with, hub_of_two, reply, seat, settings};
-use crate::expected::{Expected, PLAYLISTS, numbered, text};
-use crate::rows::{Row, push, same, same_number};
+use crate::expected::{Expected, PLAYLISTS, numbered};
+use crate::hubs::{DOOR, STOPPED, Silent, finished, hub_of_three, refused, reply, seat, settings};
+use crate::rows::{Row, push, same, text};
 use ll_check::check;
 use ll_hub::{Blanks, Hub, Ledgers, Pass};
 use ll_item::{Item, Payload};
-use ll_record::Chunk;
 use ll_verdict::{MediaReply, Reply};
 use std::alloc::Global;
 use std::marker::Brand;
@@ -134,9 +133,8 @@ fn check_answer<L: Ledgers, R: Wait + Abort>(
     target: &str,
     expected: &str,
 ) {
-    let found = reply(rt, alloc, hub, &Stopped, pass, 1, target).expect(rt, "a reply");
-    let told = told(rt, alloc, &found);
-    same(rt, target, told.as_str(), expected);
+    let found = reply(rt, alloc, hub, &STOPPED, pass, 1, target);
+    same(rt, target, told(rt, alloc, &found).as_str(), expected);
 }
 
 /// Compares what the second channel answers to requests for its playlists with what is expected.
@@ -162,14 +160,13 @@ fn check_media<L: Ledgers, R: Wait + Abort>(
     pass: &mut Pass<L>,
     expected: &Expected,
 ) {
-    for file in expected.files() {
+    for file in &expected.files {
         let answer = expected.answer(rt, file);
         check_answer(rt, alloc, hub, pass, file.target.as_str(), answer.as_str());
     }
 }
 
-/// Offers a channel the item of `line`, and keeps it if it is accepted. Returns how many items the channel has accepted then, or why it doesn't
-/// accept this one.
+/// Offers a channel the item of `line`. Returns how many items the channel has accepted then, or why it doesn't accept this one.
 fn offer<L: Ledgers, R: Wait + Abort>(
     rt: &R,
     alloc: Global,
@@ -184,91 +181,77 @@ fn offer<L: Ledgers, R: Wait + Abort>(
         return text(rt, alloc, "UnknownChannel");
     };
     let payload = Payload::of_bytes(bytes.as_bytes()).expect(rt, "few bytes");
-    let item = match Item::read(alloc, settings, line, &payload) {
-        Ok(item) => item,
-        Err(fault) => return format!(in alloc; "{fault}").expect(rt, "a text"),
-    };
-    let kept = item.copy().expect(rt, "an item");
-    match hub.publish(rt, &mut Silent, pass, place, item) {
-        Ok(count) => {
-            expected.accept(rt, kept, line, bytes.as_str());
-            let count = count.into_inner();
-            format!(in alloc; "{count}").expect(rt, "a text")
+    match Item::read(alloc, settings, line, &payload) {
+        Ok(item) => {
+            let told = publish(rt, alloc, hub, pass, place, item);
+            if told.starts_with(|first: char| first.is_ascii_digit()) {
+                expected.accept(rt, line, bytes.as_str());
+            }
+            told
         }
         Err(fault) => format!(in alloc; "{fault}").expect(rt, "a text"),
     }
 }
 
-/// Offers an item, and then asks for all playlists and all media. Returns what the item is answered.
+/// Publishes an item. Returns how many items the channel has accepted with it, or why it is refused.
+fn publish<L: Ledgers, R: Wait + Abort>(
+    rt: &R,
+    alloc: Global,
+    hub: &Hub<L>,
+    pass: &mut Pass<L>,
+    place: usize,
+    item: Item,
+) -> String {
+    match hub.publish(rt, &mut Silent, pass, place, item) {
+        Ok(count) => format!(in alloc; "{}", count.get()).expect(rt, "a text"),
+        Err(fault) => refused(rt, alloc, fault),
+    }
+}
+
+/// Offers the item of each of `lines`, and after it asks for all playlists and all media. Returns what the last item is answered.
 fn offer_and_ask<L: Ledgers, R: Wait + Abort>(
     rt: &R,
     alloc: Global,
     hub: &Hub<L>,
     pass: &mut Pass<L>,
     expected: &mut Expected,
-    channel: &str,
-    line: &str,
+    lines: &str,
 ) -> String {
-    let answer = offer(rt, alloc, hub, pass, expected, channel, line);
-    check_playlists(rt, alloc, hub, pass, expected);
-    check_media(rt, alloc, hub, pass, expected);
-    expected.count_asked();
+    let mut answer = String::new(alloc);
+    for line in lines.lines() {
+        let (channel, line) = line.split_once(" | ").unwrap_or(("door", line));
+        answer = offer(rt, alloc, hub, pass, expected, channel, line);
+        check_playlists(rt, alloc, hub, pass, expected);
+        check_media(rt, alloc, hub, pass, expected);
+        let asked = PLAYLISTS.len().saturating_add(expected.files.len());
+        expected.asked = expected.asked.saturating_add(asked as u64);
+    }
     answer
 }
 
-/// Offers the parts of a segment, one after another. Returns what the last one is answered.
-fn offer_segment<L: Ledgers, R: Wait + Abort>(
+/// Returns the result of `input`: of items, or how many bytes the playlist of a rendition has.
+fn take<L: Ledgers, R: Wait + Abort>(
     rt: &R,
     alloc: Global,
     hub: &Hub<L>,
     pass: &mut Pass<L>,
     expected: &mut Expected,
+    input: &str,
 ) -> String {
-    let mut answer = String::new(alloc);
-    for line in SEGMENT.lines() {
-        answer = offer_and_ask(rt, alloc, hub, pass, expected, "door", line);
-    }
-    answer
-}
-
-/// Returns how many bytes the playlist of a `rendition` has.
-fn length(rt: &impl Abort, alloc: Global, expected: &Expected, rendition: usize) -> String {
+    let rendition = match input {
+        "hi" => 0,
+        "lo" => 1,
+        "segment" => return offer_and_ask(rt, alloc, hub, pass, expected, SEGMENT),
+        line => return offer_and_ask(rt, alloc, hub, pass, expected, line),
+    };
     let length = expected.page(rt, rendition, None).text().len();
     format!(in alloc; "{length}").expect(rt, "a text")
 }
 
-/// Returns the result of the input of `row`.
-fn take_row<L: Ledgers, R: Wait + Abort>(
-    rt: &R,
-    alloc: Global,
-    hub: &Hub<L>,
-    pass: &mut Pass<L>,
-    expected: &mut Expected,
-    row: Row<'_>,
-) -> String {
-    let input = row.input();
-    if input == "segment" {
-        offer_segment(rt, alloc, hub, pass, expected)
-    } else if input == "hi" {
-        length(rt, alloc, expected, 0)
-    } else if input == "lo" {
-        length(rt, alloc, expected, 1)
-    } else {
-        let (channel, line) = input.split_once(" | ").unwrap_or(("door", input));
-        offer_and_ask(rt, alloc, hub, pass, expected, channel, line)
-    }
-}
-
-/// Hands out the record of a `channel`, and returns it.
-fn chunk<L: Ledgers, R: Wait + Abort>(rt: &R, hub: &Hub<L>, channel: usize) -> Chunk {
-    hub.rotate(rt, &mut hub.past(), channel)
-        .expect(rt, "a chunk")
-}
-
-/// Returns the lines of the items in a `record`.
-fn item_lines(rt: &impl Abort, alloc: Global, record: &str) -> String {
+/// Returns the lines of the items in a record.
+fn item_lines(rt: &impl Abort, alloc: Global, record: &[u8]) -> String {
     let mut items = String::new(alloc);
-    for line in record.lines() {
+    for line in str::from_utf8(record).expect(rt, "a text").lines() {
         if line.starts_with("P ") {
             push(rt, &mut items, line);
             push(rt, &mut items, "\n");
@@ -284,16 +267,15 @@ fn check_records<L: Ledgers, R: Wait + Abort>(
     hub: &Hub<L>,
     expected: &Expected,
 ) {
-    same_number(rt, "the first record", chunk(rt, hub, 0).entries(), 0);
-    let second = chunk(rt, hub, 1);
-    let entries = check(alloc, second.bytes()).unwrap_or(0);
-    same_number(rt, "the second record", entries, second.entries());
-    let record = str::from_utf8(second.bytes()).expect(rt, "a text");
-    let items = item_lines(rt, alloc, record);
-    same(rt, "the items", items.as_str(), expected.record());
+    let first = hub.rotate(rt, &mut hub.past(), 0).expect(rt, "a chunk");
+    let second = hub.rotate(rt, &mut hub.past(), 1).expect(rt, "a chunk");
+    let entries = check(alloc, second.bytes());
+    assert!(rt; first.entries() == 0 && entries == Ok(second.entries()));
+    let items = item_lines(rt, alloc, second.bytes());
+    same(rt, "the items", items.as_str(), expected.record.as_str());
 }
 
-/// Publishes the items of a `table` in the second of two channels, one after another.
+/// Publishes the items of a `table` in the second of three channels, one after another.
 fn publish_in_second<L: Ledgers, R: Wait + Abort>(
     rt: &R,
     alloc: Global,
@@ -301,24 +283,22 @@ fn publish_in_second<L: Ledgers, R: Wait + Abort>(
     table: Table,
 )
     requires names { blanks ≡ L.names }
-    requires channels { L.channels ≡ 2 }
+    requires channels { L.channels ≡ 3 }
 {
-    let hub: Hub<L> = hub_of_two(rt, alloc, blanks);
+    let hub: Hub<L> = hub_of_three(rt, alloc, blanks);
     let mut pass = seat(rt, &hub);
     let mut expected = Expected::new(rt, alloc, settings(rt, alloc, DOOR));
     for line in table.lines.lines() {
         let row = Row { line };
-        let told = take_row(rt, alloc, &hub, &mut pass, &mut expected, row);
+        let told = take(rt, alloc, &hub, &mut pass, &mut expected, row.input());
         row.compare(rt, told.as_str());
     }
     check_records(rt, alloc, &hub, &expected);
-    let totals = finished_with(rt, alloc, hub, pass);
-    same(
-        rt,
-        "the totals",
-        totals.as_str(),
-        expected.totals(rt).as_str(),
-    );
+    let passes = vec![in alloc; pass].expect(rt, "passes");
+    let totals = finished(rt, alloc, hub, passes);
+    let (accepted, asked) = (expected.accepted, expected.asked);
+    let wanted = format!(in alloc; "0 0 0;{accepted} {asked} 0;0 0 0;").expect(rt, "a text");
+    same(rt, "the totals", totals.as_str(), wanted.as_str());
 }
 
 /// What is published in one channel is answered and recorded there as the definitions say, and changes no other channel. What is refused changes

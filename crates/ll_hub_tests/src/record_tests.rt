@@ -1,8 +1,8 @@
 //! A test of the records that a hub's channels hand out.
 ghost use Rattle.std.specs.Prelude.{◌≡◌};
 
-use crate::cases::{NOW, SEGMENT, Stopped, add_one, asked, finished, hub_of_one, published, seat};
-use crate::rows::{same, same_number};
+use crate::hubs::{SEGMENT, STOPPED, add_one, asked, finished, hub_of_one, published, seat};
+use crate::rows::same;
 use ll_check::check;
 use ll_hub::{Blanks, Hub, Ledgers, Pass, Sink};
 use ll_record::Chunk;
@@ -22,40 +22,18 @@ struct Kept<'a, R> {
     chunks: AtomicU64,
 }
 
-impl<'a, R: Wait> Kept<'a, R> {
-    /// Returns a sink that has taken nothing.
-    fn new(rt: &'a R, alloc: Global) -> Kept<'a, R> {
-        Kept {
-            rt,
-            bytes: Mutex::new(Vec::new(alloc)),
-            chunks: AtomicU64::new(0),
-        }
-    }
-
-    /// Returns how many chunks the sink has taken.
-    fn chunks(&self) -> u64 {
-        self.chunks.load(Ordering::SeqCst)
-    }
-}
-
-/// Returns how many entries the chunks of a sink have, or 0 if they aren't right.
-fn entries<R: Wait>(rt: &R, alloc: Global, sink: &Kept<'_, R>) -> u64 {
-    let bytes = sink.bytes.lock(rt);
-    check(alloc, &bytes).unwrap_or(0)
-}
-
-/// Hands out the record of a hub's first channel to a sink.
-fn hand_out<L: Ledgers, R: Wait + Abort>(rt: &R, hub: &Hub<L>, mut sink: &Kept<'_, R>) {
-    hub.rotate_to(rt, &mut hub.past(), 0, &mut sink)
-        .expect(rt, "a chunk");
-}
-
 impl<R: Wait> Sink for &Kept<'_, R> {
     /// Takes a chunk. If memory is missing, the bytes lack the chunk.
     fn take(&mut self, _channel: usize, chunk: Chunk) {
         let _ = self.bytes.lock(self.rt).extend_from_slice(chunk.bytes());
         add_one(&self.chunks);
     }
+}
+
+/// Hands out the record of a hub's first channel to a sink.
+fn hand_out<L: Ledgers, R: Wait + Abort>(rt: &R, hub: &Hub<L>, mut sink: &Kept<'_, R>) {
+    hub.rotate_to(rt, &mut hub.past(), 0, &mut sink)
+        .expect(rt, "a chunk");
 }
 
 /// Makes call `number` of a thread: each third call asks, the others publish.
@@ -67,8 +45,7 @@ fn call<L: Ledgers, R: Wait + Abort>(
     number: u64,
 ) {
     if number % 3 == 0 {
-        let items = asked(rt, alloc, hub, &Stopped, pass, 0, NOW);
-        assert!(rt; items > 0);
+        assert!(rt; asked(rt, alloc, hub, &STOPPED, pass, 0) > 0);
     } else {
         published(rt, alloc, hub, pass, 0, SEGMENT);
     }
@@ -102,7 +79,11 @@ fn record_by_three<L: Ledgers + Send + Sync, R: Threads + Wait + Abort + Sync>(
     requires channels { L.channels ≡ 1 }
 {
     let hub: Hub<L> = hub_of_one(rt, alloc, blanks);
-    let sink = Kept::new(rt, alloc);
+    let sink = Kept {
+        rt,
+        bytes: Mutex::new(Vec::new(alloc)),
+        chunks: AtomicU64::new(0),
+    };
     let passes = thread::map_indices(
         rt,
         alloc,
@@ -110,8 +91,8 @@ fn record_by_three<L: Ledgers + Send + Sync, R: Threads + Wait + Abort + Sync>(
         &|_place| call_and_hand_out(rt, alloc, &hub, &sink),
     );
     hand_out(rt, &hub, &sink);
-    same_number(rt, "the chunks", sink.chunks(), 46);
-    same_number(rt, "the entries", entries(rt, alloc, &sink), 600);
+    assert!(rt; sink.chunks.load(Ordering::SeqCst) == 46);
+    assert!(rt; check(alloc, &sink.bytes.lock(rt)) == Ok(600));
     finished(rt, alloc, hub, passes.expect(rt, "three threads"))
 }
 

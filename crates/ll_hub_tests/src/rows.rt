@@ -1,11 +1,8 @@
 //! Rows of tables, and comparisons of results with what is expected.
-ghost use Rattle.std.specs.Prelude.{◌≡◌};
-
 use std::alloc::Global;
-use std::fmt::Write;
 use std::process::Abort;
 
-/// A row of a table: an input, an arrow, and the expected result. Columns of the input are separated by bars.
+/// A row of a table: an input, an arrow, and the expected result.
 #[derive(Clone, Copy)]
 pub(crate) struct Row<'a> {
     pub(crate) line: &'a str,
@@ -14,50 +11,40 @@ pub(crate) struct Row<'a> {
 impl<'a> Row<'a> {
     /// Returns what stands before the arrow.
     pub(crate) fn input(self) -> &'a str {
-        let (input, _answer) = self.line.rsplit_once(" => ").unwrap_or((self.line, ""));
-        input
+        match self.line.split_once(" => ") {
+            Some((input, _)) => input,
+            None => self.line,
+        }
     }
 
-    /// Returns the column `place`, from 0, of what stands before the arrow.
-    pub(crate) fn column(self, place: usize) -> &'a str {
-        self.input().split(" | ").nth(place).unwrap_or("")
+    /// Returns whether the row is a step: a line with an arrow, before which there are no totals.
+    pub(crate) fn is_step(self) -> bool {
+        self.line.contains(" => ") && !self.line.starts_with("totals ")
     }
 
     /// Compares `told` with what stands after the arrow.
     pub(crate) fn compare(self, rt: &impl Abort, told: &str) {
-        let (_input, answer) = self.line.rsplit_once(" => ").unwrap_or(("", self.line));
+        let answer = match self.line.split_once(" => ") {
+            Some((_, answer)) => answer,
+            None => self.line,
+        };
         same(rt, self.line, told, answer);
     }
 }
 
 /// Compares the text `told` with what is expected.
 pub(crate) fn same(rt: &impl Abort, at: &str, told: &str, expected: &str) {
-    assert_eq!(rt; told, expected, "at {at}");
+    if told != expected {
+        panic!(rt; "at {at}: {told} in place of {expected}");
+    }
 }
 
-/// Compares the number `told` with what is expected.
-pub(crate) fn same_number(rt: &impl Abort, at: &str, told: u64, expected: u64) {
-    assert_eq!(rt; told, expected, "at {at}");
-}
-
-/// Parses `text` as a number.
-pub(crate) fn number(rt: &impl Abort, text: &str) -> u64 {
-    text.parse::<u64>().expect(rt, "a number")
+/// Returns a copy of `of`.
+pub(crate) fn text(rt: &impl Abort, alloc: Global, of: &str) -> String {
+    String::from_str(alloc, of).expect(rt, "a text")
 }
 
 /// Appends `more` to `text`.
 pub(crate) fn push(rt: &impl Abort, text: &mut String, more: &str) {
     text.push_str(more).expect(rt, "a text");
-}
-
-/// Appends three numbers to `text`.
-pub(crate) fn push_three(rt: &impl Abort, text: &mut String, first: u64, second: u64, third: u64) {
-    write!(text, "{first} {second} {third};").expect(rt, "a text");
-}
-
-/// Returns a text of three numbers.
-pub(crate) fn three(rt: &impl Abort, alloc: Global, first: u64, second: u64, third: u64) -> String {
-    let mut text = String::new(alloc);
-    push_three(rt, &mut text, first, second, third);
-    text
 }

@@ -1,11 +1,11 @@
 //! Hubs of one channel that the tests share, and calls of them.
 ghost use Rattle.std.specs.Prelude.{◌≡◌};
 
-use crate::rows::push_three;
 use ll_hub::{Bell, Blanks, Clock, Hub, Ledgers, Pass};
 use ll_item::{Item, Payload};
 use ll_settings::Settings;
 use std::alloc::Global;
+use std::fmt::Write;
 use std::process::Abort;
 use std::sync::Wait;
 use std::sync::atomic::{AtomicU64, Ordering};
@@ -93,9 +93,8 @@ pub(crate) fn hub_of_one<L: Ledgers>(rt: &impl Abort, alloc: Global, blanks: Bla
     requires names { blanks ≡ L.names }
     requires channels { L.channels ≡ 1 }
 {
-    let channels = vec![in alloc; Settings::read(alloc, CAM).expect(rt, "settings")].expect(
-        rt, "channels",
-    );
+    let settings = Settings::read(alloc, CAM).expect(rt, "settings");
+    let channels = vec![in alloc; settings].expect(rt, "channels");
     Hub::new(alloc, channels, blanks).expect(rt, "a hub")
 }
 
@@ -104,36 +103,22 @@ pub(crate) fn seat<L: Ledgers, R: Wait + Abort>(rt: &R, hub: &Hub<L>) -> Pass<L>
     hub.seat(rt).expect(rt, "a pass")
 }
 
-/// Publishes the item of `line`, which is accepted. Returns how many items the channel has accepted with it.
-pub(crate) fn published<L: Ledgers, R: Wait + Abort>(
-    rt: &R,
-    alloc: Global,
-    hub: &Hub<L>,
-    pass: &mut Pass<L>,
-    channel: usize,
-    line: &str,
-) -> u64 {
-    published_rung(rt, alloc, hub, &mut Silent, pass, channel, line)
-}
-
-/// Does what [`published`] does, and rings `bell`.
-pub(crate) fn published_rung<L: Ledgers, B: Bell, R: Wait + Abort>(
+/// Publishes the item of `line`, which is accepted, and rings `bell`. Returns how many items the channel has accepted with it.
+pub(crate) fn published<L: Ledgers, B: Bell, R: Wait + Abort>(
     rt: &R,
     alloc: Global,
     hub: &Hub<L>,
     bell: &mut B,
     pass: &mut Pass<L>,
-    channel: usize,
     line: &str,
 ) -> u64 {
     let settings = Settings::read(alloc, CAM).expect(rt, "settings");
     let item = Item::read(alloc, &settings, line, &Payload::none()).expect(rt, "an item");
-    let count = hub.publish(rt, bell, pass, channel, item);
+    let count = hub.publish(rt, bell, pass, 0, item);
     count.expect(rt, "an item that is accepted").into_inner()
 }
 
-/// Finishes a hub with `passes`. Returns for each channel how many items were accepted, how many requests were made, and how many of these are held
-/// at the end.
+/// Finishes a hub with `passes`. Returns how many items its channel has accepted, how many requests were made, and how many of these are held at the end.
 pub(crate) fn finished<L: Ledgers>(
     rt: &impl Abort,
     alloc: Global,
@@ -143,7 +128,8 @@ pub(crate) fn finished<L: Ledgers>(
     let totals = hub.finish(passes).expect(rt, "totals");
     let mut text = String::new(alloc);
     for total in &totals.channels {
-        push_three(rt, &mut text, total.publishes, total.asks, total.held);
+        let (publishes, asks, held) = (total.publishes, total.asks, total.held);
+        write!(text, "{publishes} {asks} {held};").expect(rt, "a text");
     }
     text
 }

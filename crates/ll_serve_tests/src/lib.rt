@@ -2,9 +2,9 @@
 #![tactic(auto)]
 
 #[cfg(test)]
-mod full_tests;
+mod beside;
 #[cfg(test)]
-mod halting;
+mod full_tests;
 #[cfg(test)]
 mod held_tests;
 #[cfg(test)]
@@ -12,17 +12,15 @@ mod hubs;
 #[cfg(test)]
 mod link_tests;
 #[cfg(test)]
-mod media_tests;
-#[cfg(test)]
-mod place_tests;
-#[cfg(test)]
 mod players_tests;
 #[cfg(test)]
 mod rows;
 #[cfg(test)]
-mod socket_tests;
+mod sockets;
 #[cfg(test)]
 mod step_tests;
+#[cfg(test)]
+mod talks;
 #[cfg(test)]
 mod wires;
 #[cfg(test)]

@@ -1,81 +1,56 @@
 //! Tests of connections whose reads and writes fail, or take a few bytes at a time.
 ghost use Rattle.std.specs.Prelude.{◌≡◌, ◌≤◌};
 
-use crate::hubs::{SEGMENT, finished_with, hub_of_one, published, seat};
-use crate::rows::{push, same, three};
-use crate::wires::{ANSWER, GET, LINE, Plan, SOUND, Wire, service, text_of};
-use ll_hub::{Blanks, Hub, Ledgers, Pass};
+use crate::beside::Served;
+use crate::hubs::{SEGMENT, Silent, finished_with, hub_of_one, published, seat};
+use crate::talks::{ANSWER, GET, LINE};
+use crate::wires::{Plan, SOUND, Tape, Wire, service};
+use ll_hub::{Blanks, Hub, Ledgers};
 use ll_serve::{LinkFault, Role, serve_link_within};
 use std::alloc::Global;
 use std::marker::Brand;
+use std::mem;
 use std::process::Abort;
 use std::sync::Wait;
+use std::sync::atomic::AtomicU64;
 use std::time::Clock;
 
-/// How a connection ended, what was sent on it, and the totals of its hub.
-#[derive(Drop)]
-pub(crate) struct Served {
-    pub(crate) result: Result<u64, LinkFault>,
-    pub(crate) sent: Vec<u8>,
-    pub(crate) totals: String,
-}
-
-/// Returns the name of the end of a connection.
-pub(crate) fn name(end: Result<u64, LinkFault>) -> &'static str {
-    match end {
-        Ok(0) => "no answer",
-        Ok(1) => "one answer",
-        Ok(2) => "two answers",
-        Ok(_) => "another number of answers",
-        Err(LinkFault::Read) => "Read",
-        Err(LinkFault::Write) => "Write",
-        Err(LinkFault::Endless) => "Endless",
-        Err(_) => "another fault",
-    }
-}
-
-/// Two requests of one role, and the answers to them after one segment.
-#[derive(Drop)]
+/// A request of one role, which is made twice, and the answers to it after one segment, which have one length.
+#[derive(Clone, Copy)]
 struct Talk {
     role: Role,
-    bytes: Vec<u8>,
-    answers: String,
+    request: &'static [u8],
+    answers: [&'static str; 2],
 }
 
-/// Returns two requests of `role`, and the answers to them after one segment.
-fn two_requests(rt: &impl Abort, alloc: Global, role: Role) -> Talk {
-    let (bytes, first, second) = match role {
-        Role::Player => (GET, ANSWER, ANSWER),
-        Role::Publisher => (LINE, "ok 2\n", "ok 3\n"),
-    };
-    let mut answers = String::new(alloc);
-    push(rt, &mut answers, first);
-    push(rt, &mut answers, second);
+/// Two lines of a publisher, and two requests of a player.
+const TALKS: [Talk; 2] = [
     Talk {
-        role,
-        bytes: bytes.repeat(alloc, 2).expect(rt, "two requests"),
-        answers,
-    }
-}
+        role: Role::Publisher,
+        request: LINE,
+        answers: ["ok 2\n", "ok 3\n"],
+    },
+    Talk {
+        role: Role::Player,
+        request: GET,
+        answers: [ANSWER, ANSWER],
+    },
+];
 
 impl Talk {
-    /// Returns how many requests lie whole in the first `bytes` bytes.
-    fn requests(&self, bytes: usize) -> usize {
-        let half = self.bytes.len() / 2;
-        bytes.min(self.bytes.len()).checked_div(half).unwrap_or(0)
-    }
-
     /// Returns how many bytes one answer has.
-    fn answer(&self) -> usize {
-        self.answers.len() / 2
+    fn answer(self) -> usize {
+        self.answers[0].len()
     }
 
-    /// Returns the totals of a hub if the first `requests` of them were made.
-    fn totals(&self, rt: &impl Abort, alloc: Global, requests: usize) -> String {
-        let requests = requests as u64;
-        match self.role {
-            Role::Player => three(rt, alloc, 1, requests, 0),
-            Role::Publisher => three(rt, alloc, requests.saturating_add(1), 0, 0),
+    /// Returns what is expected of a hub's totals if the first `requests` requests were made.
+    fn totals(self, requests: usize) -> &'static str {
+        match (self.role, requests) {
+            (Role::Player, 0) | (Role::Publisher, 0) => "1 0 0;",
+            (Role::Player, 1) => "1 1 0;",
+            (Role::Player, _) => "1 2 0;",
+            (Role::Publisher, 1) => "2 0 0;",
+            (Role::Publisher, _) => "3 0 0;",
         }
     }
 }
@@ -85,7 +60,8 @@ fn serve<L: Ledgers, R: Wait + Clock + Abort>(
     rt: &R,
     alloc: Global,
     blanks: Blanks,
-    talk: &Talk,
+    role: Role,
+    bytes: &[u8],
     plan: Plan,
 ) -> Served
     requires names { blanks ≡ L.names }
@@ -93,98 +69,90 @@ fn serve<L: Ledgers, R: Wait + Clock + Abort>(
 {
     let hub: Hub<L> = hub_of_one(rt, alloc, blanks);
     let mut pass = seat(rt, &hub);
-    published(rt, alloc, &hub, &mut pass, 0, SEGMENT);
-    let mut wire = Wire::new(alloc, &talk.bytes, plan);
+    published(rt, alloc, &hub, &mut Silent, &mut pass, SEGMENT);
+    let (tape, writes) = (Tape::new(alloc), AtomicU64::new(0));
+    let mut wire = Wire {
+        rt,
+        rest: bytes,
+        plan,
+        tape: &tape,
+        writes: &writes,
+        failed: false,
+    };
     let service = service(rt, alloc, &hub);
-    let result = serve_link_within(&service, talk.role, &mut wire, &mut pass, plan.looks);
+    let result = serve_link_within(&service, role, &mut wire, &mut pass, plan.looks);
     Served {
         result,
-        sent: wire.into_sent(),
+        sent: mem::replace(&mut *tape.sent.lock(rt), Vec::new(alloc)),
+        calls: 0,
         totals: finished_with(rt, alloc, hub, pass),
     }
 }
 
-/// The expected end of a connection: how it ends, how many requests are made, and how many bytes of their answers are sent.
-#[derive(Clone, Copy)]
-struct Wanted {
-    result: Result<u64, LinkFault>,
+/// Serves a connection of this `plan`, and checks how it ends, how many requests are made, and that as many bytes of their answers are sent. Nothing
+/// of it is held afterwards.
+fn check<R: Wait + Clock + Abort>(
+    rt: &R,
+    alloc: Global,
+    talk: Talk,
+    plan: Plan,
+    end: Result<u64, LinkFault>,
     requests: usize,
     sent: usize,
+) {
+    let bytes = talk.request.repeat(alloc, 2).expect(rt, "two requests");
+    let answers = talk.answers.concat(alloc).expect(rt, "two answers");
+    let found = serve::<Brand, R>(rt, alloc, Blanks::new(), talk.role, &bytes, plan);
+    assert!(rt; found.result == end && found.totals.as_str() == talk.totals(requests));
+    assert!(rt; found.sent.len() == sent && answers.as_bytes().starts_with(&found.sent));
 }
 
-/// Serves a connection of this `plan`, and compares its end with what is wanted. Nothing of it is held afterwards.
-fn check<R: Wait + Clock + Abort>(rt: &R, alloc: Global, talk: &Talk, plan: Plan, wanted: Wanted) {
-    let found = serve::<Brand, R>(rt, alloc, Blanks::new(), talk, plan);
-    same(rt, "the end", name(found.result), name(wanted.result));
-    let sent = talk.answers.get(..wanted.sent).unwrap_or(&talk.answers);
-    same(rt, "the answers", text_of(&found.sent), sent);
-    let totals = talk.totals(rt, alloc, wanted.requests);
-    same(rt, "the totals", found.totals.as_str(), totals.as_str());
-}
-
-/// Checks that a connection of this `plan` gets both answers.
-fn check_whole<R: Wait + Clock + Abort>(rt: &R, alloc: Global, talk: &Talk, plan: Plan) {
-    let wanted = Wanted {
-        result: Ok(2),
-        requests: 2,
-        sent: talk.answers.len(),
-    };
-    check(rt, alloc, talk, plan, wanted);
-}
-
-/// Lets each read fail in turn, of `step` bytes each. The connection gets the answers to what came before the failed read.
-fn fail_each_read<R: Wait + Clock + Abort>(rt: &R, alloc: Global, talk: &Talk, step: usize)
+/// Lets each read fail in turn, of `step` bytes each. The connection gets the answers to what came before the failed read, and both if none fails.
+fn fail_each_read<R: Wait + Clock + Abort>(rt: &R, alloc: Global, talk: Talk, step: usize)
     requires { 1 ≤ step }
 {
-    let all = talk.bytes.len().div_ceil(step).saturating_add(1);
-    for reads in 0..all {
-        let requests = talk.requests(reads.saturating_mul(step));
-        let wanted = Wanted {
-            result: Err(LinkFault::Read),
-            requests,
-            sent: talk.answer().saturating_mul(requests),
+    let length = talk.request.len();
+    let all = length.saturating_mul(2);
+    let most = all.div_ceil(step).saturating_add(1);
+    for reads in 0..most {
+        let came = reads.saturating_mul(step).min(all);
+        let requests = came.checked_div(length).unwrap_or(0);
+        let sent = talk.answer().saturating_mul(requests);
+        let plan = Plan {
+            step,
+            reads,
+            ..SOUND
         };
-        check(
-            rt,
-            alloc,
-            talk,
-            Plan {
-                step,
-                reads,
-                ..SOUND
-            },
-            wanted,
-        );
+        check(rt, alloc, talk, plan, Err(LinkFault::Read), requests, sent);
     }
-    check_whole(
+    let plan = Plan {
+        step,
+        reads: most,
+        ..SOUND
+    };
+    check(
         rt,
         alloc,
         talk,
-        Plan {
-            step,
-            reads: all,
-            ..SOUND
-        },
+        plan,
+        Ok(2),
+        2,
+        talk.answer().saturating_mul(2),
     );
-}
-
-/// Lets each read of two requests fail in turn.
-fn fail_reads<R: Wait + Clock + Abort>(rt: &R, alloc: Global, role: Role) {
-    let talk = two_requests(rt, alloc, role);
-    fail_each_read(rt, alloc, &talk, 1);
-    fail_each_read(rt, alloc, &talk, 7);
-    fail_each_read(rt, alloc, &talk, 100);
 }
 
 /// A connection whose read fails gets the answers to what came before.
 #[test]
 fn failed_reads_are_told(rt: HostRuntime) {
-    fail_reads(&rt, rt.alloc(), Role::Player);
-    fail_reads(&rt, rt.alloc(), Role::Publisher);
+    for talk in TALKS {
+        for step in [1, 7, 100] {
+            fail_each_read(&rt, rt.alloc(), talk, step);
+        }
+    }
 }
 
 /// Lets each write fail in turn, of `taken` bytes each. The connection gets what was written before the failed write.
-fn fail_each_write<R: Wait + Clock + Abort>(rt: &R, alloc: Global, talk: &Talk, taken: usize)
+fn fail_each_write<R: Wait + Clock + Abort>(rt: &R, alloc: Global, talk: Talk, taken: usize)
     requires { 1 ≤ taken }
 {
     let each = talk.answer().div_ceil(taken);
@@ -192,117 +160,80 @@ fn fail_each_write<R: Wait + Clock + Abort>(rt: &R, alloc: Global, talk: &Talk, 
         let answers = writes.checked_div(each).unwrap_or(0);
         let rest = writes.saturating_sub(each.saturating_mul(answers));
         let whole = talk.answer().saturating_mul(answers);
-        let wanted = Wanted {
-            result: Err(LinkFault::Write),
-            requests: answers.saturating_add(1),
-            sent: whole.saturating_add(taken.saturating_mul(rest)),
+        let sent = whole.saturating_add(taken.saturating_mul(rest));
+        let plan = Plan {
+            taken,
+            writes,
+            ..SOUND
         };
-        check(
-            rt,
-            alloc,
-            talk,
-            Plan {
-                taken,
-                writes,
-                ..SOUND
-            },
-            wanted,
-        );
+        let requests = answers.saturating_add(1);
+        check(rt, alloc, talk, plan, Err(LinkFault::Write), requests, sent);
     }
-}
-
-/// Lets each write of two answers fail in turn.
-fn fail_writes<R: Wait + Clock + Abort>(rt: &R, alloc: Global, role: Role) {
-    let talk = two_requests(rt, alloc, role);
-    fail_each_write(rt, alloc, &talk, 2);
-    fail_each_write(rt, alloc, &talk, 100);
-    fail_each_write(rt, alloc, &talk, 1_000);
 }
 
 /// A connection whose write fails gets what was written before. One request more is made than is answered.
 #[test]
 fn failed_writes_are_told(rt: HostRuntime) {
-    fail_writes(&rt, rt.alloc(), Role::Player);
-    fail_writes(&rt, rt.alloc(), Role::Publisher);
+    for talk in TALKS {
+        for taken in [2, 100, 1_000] {
+            fail_each_write(&rt, rt.alloc(), talk, taken);
+        }
+    }
 }
 
-/// Checks that a connection gets both answers if a write takes `taken` bytes, and one byte alone comes after `whole` writes.
-fn write_short<R: Wait + Clock + Abort>(
-    rt: &R,
-    alloc: Global,
-    talk: &Talk,
-    taken: usize,
-    whole: usize,
-) {
-    check_whole(
-        rt,
-        alloc,
-        talk,
-        Plan {
-            taken,
-            whole,
-            ..SOUND
-        },
-    );
-}
+/// How many bytes a write takes, after how many writes one byte alone comes, and how the connection ends.
+const WRITES: [(usize, usize, Result<u64, LinkFault>); 7] = [
+    (1, 9, Ok(2)),
+    (2, 9, Ok(2)),
+    (3, 1, Ok(2)),
+    (1_000, 0, Ok(2)),
+    (1_000, 1, Ok(2)),
+    (1_000, 2, Ok(2)),
+    (0, 9, Err(LinkFault::Write)),
+];
 
-/// Takes a piece of an answer at a time.
-fn write_parts<R: Wait + Clock + Abort>(rt: &R, alloc: Global, role: Role) {
-    let talk = two_requests(rt, alloc, role);
-    write_short(rt, alloc, &talk, 1, 9);
-    write_short(rt, alloc, &talk, 2, 9);
-    write_short(rt, alloc, &talk, 3, 1);
-    write_short(rt, alloc, &talk, 1_000, 0);
-    write_short(rt, alloc, &talk, 1_000, 1);
-    write_short(rt, alloc, &talk, 1_000, 2);
-}
-
-/// After a write that takes a piece of an answer, the rest is written.
+/// After a write that takes a piece of an answer, the rest is written; one that takes nothing fails.
 #[test]
 fn short_writes_leave_nothing_out(rt: HostRuntime) {
-    write_parts(&rt, rt.alloc(), Role::Player);
-    write_parts(&rt, rt.alloc(), Role::Publisher);
+    for talk in TALKS {
+        for (taken, whole, end) in WRITES {
+            let plan = Plan {
+                taken,
+                whole,
+                ..SOUND
+            };
+            let sent = talk.answer().saturating_mul(if taken == 0 { 0 } else { 2 });
+            check(
+                &rt,
+                rt.alloc(),
+                talk,
+                plan,
+                end,
+                taken.min(1).saturating_add(1),
+                sent,
+            );
+        }
+    }
 }
 
-/// Takes nothing of an answer.
-fn write_nothing<R: Wait + Clock + Abort>(rt: &R, alloc: Global, role: Role) {
-    let talk = two_requests(rt, alloc, role);
-    let wanted = Wanted {
-        result: Err(LinkFault::Write),
-        requests: 1,
-        sent: 0,
-    };
-    check(rt, alloc, &talk, Plan { taken: 0, ..SOUND }, wanted);
-}
-
-/// A write that takes nothing of an answer fails.
-#[test]
-fn writes_that_take_nothing_fail(rt: HostRuntime) {
-    write_nothing(&rt, rt.alloc(), Role::Player);
-    write_nothing(&rt, rt.alloc(), Role::Publisher);
-}
-
-/// Ends a connection of `role`, which gives one request a read, after one read and its answer. With three reads it reaches its end.
-fn read_few<R: Wait + Clock + Abort>(rt: &R, alloc: Global, role: Role) {
-    let talk = two_requests(rt, alloc, role);
-    let step = talk.bytes.len() / 2;
-    let plan = Plan {
-        step,
-        looks: 1,
-        ..SOUND
-    };
-    let wanted = Wanted {
-        result: Err(LinkFault::Endless),
-        requests: 1,
-        sent: talk.answer(),
-    };
-    check(rt, alloc, &talk, plan, wanted);
-    check_whole(rt, alloc, &talk, Plan { looks: 3, ..plan });
-}
+/// How often a connection that gives one request a read may be read, how it ends, and how many requests are answered.
+const LOOKS: [(u64, Result<u64, LinkFault>, usize); 2] = [
+    (1, Err(LinkFault::Endless), 1),
+    (3, Ok(2), 2),
+];
 
 /// A connection is ended once it was read as often as is allowed.
 #[test]
 fn reads_are_counted(rt: HostRuntime) {
-    read_few(&rt, rt.alloc(), Role::Player);
-    read_few(&rt, rt.alloc(), Role::Publisher);
+    for talk in TALKS {
+        for (looks, end, requests) in LOOKS {
+            let plan = Plan {
+                step: talk.request.len(),
+                looks,
+                ..SOUND
+            };
+            let sent = talk.answer().saturating_mul(requests);
+            check(&rt, rt.alloc(), talk, plan, end, requests, sent);
+        }
+    }
 }

@@ -1,47 +1,41 @@
-//! Tests of players' connections that share few pollers, over sockets of one machine.
-ghost use Rattle.std.specs.Prelude.{◌≡◌};
+//! A test of players' connections that share few pollers, over sockets of one machine.
+ghost use Rattle.std.specs.Prelude.{◌≡◌, ◌≤◌};
 
-use crate::hubs::{SEGMENT, Stopped, finished, hub_of_one, published, published_rung, seat};
-use crate::rows::{same, same_number};
-use crate::socket_tests::{Few, check_exchange, connect, exchange};
-use crate::wires::{ANSWER, Dropped, GET, Open, no_spools, text_of};
+use crate::hubs::{SEGMENT, Silent, Stopped, finished, hub_of_one, published, seat};
+use crate::rows::{same, same_bytes};
+use crate::sockets::{Few, ask, check_answer, connect, exchange, receive};
+use crate::talks::{ANSWER, GET};
+use crate::wires::{Dropped, Open, no_spools};
 use ll_hub::{Blanks, Hub, Ledgers, Pass};
-use ll_serve::{Bells, Role, Service, serve_players};
+use ll_serve::{Bells, Service, serve_players};
 use std::alloc::Global;
-use std::io::{Read, Write};
 use std::marker::Brand;
 use std::net::{Net, SocketAddr, TcpListener, TcpStream};
 use std::process::Abort;
 use std::sync::Wait;
-use std::thread;
 use std::thread::Threads;
 use std::time::Clock;
+use std::{str, thread};
 
 /// A request that awaits the first part of the second segment.
 const GET_SECOND: &[u8] =
     b"GET /cam/hi/live.m3u8?_HLS_msn=1&_HLS_part=0 HTTP/1.1\r\nHost: h\r\n\r\n";
 
-/// How long a player may be idle, in seconds, if the test takes less.
-const LONG: u64 = 30;
-
 /// How many requests a player makes after one that waited.
 const OFTEN: u64 = 12;
 
-/// Sends a request over a connection that is kept.
-fn ask(rt: &impl Abort, player: &TcpStream, request: &[u8]) {
-    let mut socket = player;
-    socket.write_all(request).expect(rt, "a request");
+/// What three players do after a segment was published.
+#[derive(Clone, Copy, PartialEq, Eq)]
+enum Scene {
+    /// They ask in turn, twice each, and keep their connections.
+    InTurn,
+    /// One waits for a second segment while another is answered, and then asks again and again.
+    Waiting,
+    /// One waits for a second segment until another, which asks after it and then is idle, is closed.
+    Idle,
 }
 
-/// Compares the next bytes that come over a connection with `answer`.
-fn check_answer(rt: &impl Abort, alloc: Global, player: &TcpStream, answer: &str) {
-    let mut bytes = vec![in alloc; 0; answer.len()].expect(rt, "bytes");
-    let mut socket = player;
-    socket.read_exact(&mut bytes).expect(rt, "an answer");
-    same(rt, "an answer", text_of(&bytes), answer);
-}
-
-/// Connects three players at once, and lets them ask in turn, twice each.
+/// Lets three players ask in turn, twice each.
 fn ask_in_turn<R: Net<Listener = TcpListener, Stream = TcpStream> + Abort>(
     rt: &R,
     alloc: Global,
@@ -64,7 +58,24 @@ fn ask_all(rt: &impl Abort, alloc: Global, players: &[TcpStream]) {
     }
 }
 
-/// Lets a player wait for a segment while another is answered. Once it has its answer, it asks again and again.
+/// Lets another player be answered while one waits, in a connection of its own, or in one that is closed once it was idle for too long.
+fn ask_meanwhile<R: Net<Listener = TcpListener, Stream = TcpStream> + Abort>(
+    rt: &R,
+    alloc: Global,
+    address: SocketAddr,
+    scene: Scene,
+) {
+    let found = if scene == Scene::Idle {
+        let idle = connect(rt, address).expect(rt, "a connection");
+        ask(rt, &idle, GET);
+        receive(rt, alloc, &idle)
+    } else {
+        exchange(rt, alloc, address, GET)
+    };
+    same_bytes(rt, "an answer", &found, ANSWER);
+}
+
+/// Lets a player wait for a segment while another is answered. Once it has its answer, which a third player gets too, it may ask again and again.
 fn wait_and_ask<L: Ledgers, R: Net<Listener = TcpListener, Stream = TcpStream> + Wait + Abort>(
     rt: &R,
     alloc: Global,
@@ -72,17 +83,35 @@ fn wait_and_ask<L: Ledgers, R: Net<Listener = TcpListener, Stream = TcpStream> +
     hub: &Hub<L>,
     bells: &Bells,
     pass: &mut Pass<L>,
+    scene: Scene,
 ) {
     let player = connect(rt, address).expect(rt, "a connection");
     ask(rt, &player, GET_SECOND);
-    check_exchange(rt, alloc, address, GET, ANSWER);
-    let count = published_rung(rt, alloc, hub, &mut &*bells, pass, 0, SEGMENT);
-    same_number(rt, "the second segment", count, 2);
-    let now = exchange(rt, alloc, address, GET).expect(rt, "an answer");
-    check_answer(rt, alloc, &player, text_of(&now));
-    for _ in 0..OFTEN {
+    ask_meanwhile(rt, alloc, address, scene);
+    let count = published(rt, alloc, hub, &mut &*bells, pass, SEGMENT);
+    assert!(rt; count == 2);
+    let now = exchange(rt, alloc, address, GET);
+    let answer = str::from_utf8(&now).expect(rt, "a text");
+    check_answer(rt, alloc, &player, answer);
+    for _ in 0..if scene == Scene::Waiting { OFTEN } else { 0 } {
         ask(rt, &player, GET);
-        check_answer(rt, alloc, &player, text_of(&now));
+        check_answer(rt, alloc, &player, answer);
+    }
+}
+
+/// Plays a scene.
+fn play<L: Ledgers, R: Net<Listener = TcpListener, Stream = TcpStream> + Wait + Abort>(
+    rt: &R,
+    alloc: Global,
+    address: SocketAddr,
+    hub: &Hub<L>,
+    bells: &Bells,
+    pass: &mut Pass<L>,
+    scene: Scene,
+) {
+    match scene {
+        Scene::InTurn => ask_in_turn(rt, alloc, address),
+        Scene::Waiting | Scene::Idle => wait_and_ask(rt, alloc, address, hub, bells, pass, scene),
     }
 }
 
@@ -121,7 +150,7 @@ fn admit<
     }
 }
 
-/// Serves three players with one poller, after a segment was published. Returns the totals.
+/// Serves three players with some pollers, after a segment was published. Returns the totals.
 fn serve_three<
     L: Ledgers + Send + Sync,
     R: Net<Listener = TcpListener, Stream = TcpStream>
@@ -131,128 +160,46 @@ fn serve_three<
         + Eprint
         + Abort
         + Sync,
->(rt: &R, alloc: Global, blanks: Blanks) -> String
+>(rt: &R, alloc: Global, blanks: Blanks, scene: Scene, pollers: usize, idle: u64) -> String
     requires names { blanks ≡ L.names }
     requires channels { L.channels ≡ 1 }
+    requires some { 1 ≤ pollers }
 {
-    let mut listener = Few::open(rt, Role::Player, 3);
+    let mut listener = Few::open(rt, 3);
     let address = listener.address(rt);
     let hub: Hub<L> = hub_of_one(rt, alloc, blanks);
-    let bells = Bells::new(rt, alloc, 1, 1).expect(rt, "a bell");
+    let bells = Bells::new(rt, alloc, pollers, 1).expect(rt, "bells");
     let mut pass = seat(rt, &hub);
-    published(rt, alloc, &hub, &mut pass, 0, SEGMENT);
+    published(rt, alloc, &hub, &mut Silent, &mut pass, SEGMENT);
     let ((), mut passes) = thread::join(
         rt,
-        || ask_in_turn(rt, alloc, address),
-        || admit(rt, alloc, &hub, &bells, &mut listener, LONG),
+        || play(rt, alloc, address, &hub, &bells, &mut pass, scene),
+        || admit(rt, alloc, &hub, &bells, &mut listener, idle),
     );
     passes.push(pass).expect(rt, "passes");
     finished(rt, alloc, hub, passes)
 }
 
-/// Serves a player that waits and two others, after a segment was published. Returns the totals.
-fn serve_waiting<
-    L: Ledgers + Send + Sync,
-    R: Net<Listener = TcpListener, Stream = TcpStream>
-        + Threads
-        + Wait
-        + Clock
-        + Eprint
-        + Abort
-        + Sync,
->(rt: &R, alloc: Global, blanks: Blanks) -> String
-    requires names { blanks ≡ L.names }
-    requires channels { L.channels ≡ 1 }
-{
-    let mut listener = Few::open(rt, Role::Player, 3);
-    let address = listener.address(rt);
-    let hub: Hub<L> = hub_of_one(rt, alloc, blanks);
-    let bells = Bells::new(rt, alloc, 2, 1).expect(rt, "bells");
-    let mut pass = seat(rt, &hub);
-    published(rt, alloc, &hub, &mut pass, 0, SEGMENT);
-    let ((), mut passes) = thread::join(
-        rt,
-        || wait_and_ask(rt, alloc, address, &hub, &bells, &mut pass),
-        || admit(rt, alloc, &hub, &bells, &mut listener, LONG),
-    );
-    passes.push(pass).expect(rt, "passes");
-    finished(rt, alloc, hub, passes)
-}
+/// What players do, with how many pollers, how long they may be idle, in seconds, and the totals.
+const SCENES: [(Scene, usize, u64, &str); 3] = [
+    (Scene::InTurn, 1, 30, "1 6 0;"),
+    (Scene::Waiting, 2, 30, "2 15 0;"),
+    (Scene::Idle, 1, 1, "2 3 0;"),
+];
 
-/// Compares the next answer to a player with `answer`, and then waits until its connection is closed.
-fn check_closed(rt: &impl Abort, alloc: Global, player: &TcpStream, answer: &str) {
-    check_answer(rt, alloc, player, answer);
-    let mut socket = player;
-    let mut rest = Vec::new(alloc);
-    let count = socket.read_to_end(&mut rest).expect(rt, "the end");
-    assert!(rt; count == 0);
-}
-
-/// Lets a player wait for a segment until another, which asks after it and then is idle, is closed.
-fn wait_and_be_idle<L: Ledgers, R: Net<Listener = TcpListener, Stream = TcpStream> + Wait + Abort>(
-    rt: &R,
-    alloc: Global,
-    address: SocketAddr,
-    hub: &Hub<L>,
-    bells: &Bells,
-    pass: &mut Pass<L>,
-) {
-    let waiting = connect(rt, address).expect(rt, "a connection");
-    ask(rt, &waiting, GET_SECOND);
-    let idle = connect(rt, address).expect(rt, "a connection");
-    ask(rt, &idle, GET);
-    check_closed(rt, alloc, &idle, ANSWER);
-    published_rung(rt, alloc, hub, &mut &*bells, pass, 0, SEGMENT);
-    let now = exchange(rt, alloc, address, GET).expect(rt, "an answer");
-    check_answer(rt, alloc, &waiting, text_of(&now));
-}
-
-/// Serves a player that waits, one that is idle and a third, after a segment was published. Returns the totals.
-fn serve_idle<
-    L: Ledgers + Send + Sync,
-    R: Net<Listener = TcpListener, Stream = TcpStream>
-        + Threads
-        + Wait
-        + Clock
-        + Eprint
-        + Abort
-        + Sync,
->(rt: &R, alloc: Global, blanks: Blanks) -> String
-    requires names { blanks ≡ L.names }
-    requires channels { L.channels ≡ 1 }
-{
-    let mut listener = Few::open(rt, Role::Player, 3);
-    let address = listener.address(rt);
-    let hub: Hub<L> = hub_of_one(rt, alloc, blanks);
-    let bells = Bells::new(rt, alloc, 1, 1).expect(rt, "a bell");
-    let mut pass = seat(rt, &hub);
-    published(rt, alloc, &hub, &mut pass, 0, SEGMENT);
-    let ((), mut passes) = thread::join(
-        rt,
-        || wait_and_be_idle(rt, alloc, address, &hub, &bells, &mut pass),
-        || admit(rt, alloc, &hub, &bells, &mut listener, 1),
-    );
-    passes.push(pass).expect(rt, "passes");
-    finished(rt, alloc, hub, passes)
-}
-
-/// Idle connections take no thread.
+/// Idle connections take no thread, and a request that is held keeps nobody else waiting. A connection that is idle for too long is closed; one whose
+/// request is held isn't idle.
 #[test]
-fn one_poller_serves_many(rt: HostRuntime) {
-    let totals = serve_three::<Brand, HostRuntime>(&rt, rt.alloc(), Blanks::new());
-    same(&rt, "the totals", totals.as_str(), "1 6 0;");
-}
-
-/// A request that is held keeps nobody else waiting.
-#[test]
-fn others_are_served_meanwhile(rt: HostRuntime) {
-    let totals = serve_waiting::<Brand, HostRuntime>(&rt, rt.alloc(), Blanks::new());
-    same(&rt, "the totals", totals.as_str(), "2 15 0;");
-}
-
-/// A connection that is idle for too long is closed; one whose request is held isn't idle.
-#[test]
-fn idle_players_are_closed(rt: HostRuntime) {
-    let totals = serve_idle::<Brand, HostRuntime>(&rt, rt.alloc(), Blanks::new());
-    same(&rt, "the totals", totals.as_str(), "2 3 0;");
+fn few_pollers_serve_many(rt: HostRuntime) {
+    for (scene, pollers, idle, expected) in SCENES {
+        let totals = serve_three::<Brand, HostRuntime>(
+            &rt,
+            rt.alloc(),
+            Blanks::new(),
+            scene,
+            pollers.max(1),
+            idle,
+        );
+        same(&rt, "the totals", totals.as_str(), expected);
+    }
 }

@@ -1,42 +1,17 @@
-//! Connections in memory, of whose reads and writes any can be short or fail.
+//! Connections in memory, of whose calls any can be short, have to wait or fail.
 ghost use Rattle.std.specs.Prelude.{◌≡◌, ◌+◌, ◌≤◌, None, if◌then◌else◌, length};
 
-use crate::hubs::{Silent, Stopped};
+use crate::hubs::{Silent, Stopped, add_one};
 use ll_device::{Failed, Writer};
 use ll_hub::{Hub, Ledgers, Sink};
 use ll_layout::{Place, Side};
 use ll_record::Chunk;
-use ll_serve::{Gate, Link, Notes, Service};
+use ll_serve::{Addressed, Gate, Link, Notes, Service, TryLink};
 use ll_spool::{Disk, Lost, Spool};
 use std::alloc::{AllocError, Global};
-use std::str;
-use std::sync::Mutex;
-
-/// A publisher's line: a segment of one part.
-pub(crate) const LINE: &[u8] = b"cam part hi 1000000 if\n";
-
-/// A request for the playlist, after which the connection is kept.
-pub(crate) const GET: &[u8] = b"GET /cam/hi/live.m3u8 HTTP/1.1\r\nHost: h\r\n\r\n";
-
-/// A request that awaits the first part.
-pub(crate) const GET_FIRST: &[u8] =
-    b"GET /cam/hi/live.m3u8?_HLS_msn=0&_HLS_part=0 HTTP/1.1\r\nHost: h\r\n\r\n";
-
-/// The answer if one segment of one part was published.
-pub(crate) const ANSWER: &str =
-    "HTTP/1.1 200 OK\r\nContent-Type: application/vnd.apple.mpegurl\r\nContent-Length: 467\r\n\
-Cache-Control: no-cache\r\nConnection: keep-alive\r\n\r\n\
-#EXTM3U\n#EXT-X-VERSION:10\n#EXT-X-TARGETDURATION:4\n\
-#EXT-X-SERVER-CONTROL:CAN-BLOCK-RELOAD=YES,PART-HOLD-BACK=3.000000,CAN-SKIP-UNTIL=24.000000,CAN-SKIP-DATERANGES=YES\n\
-#EXT-X-PART-INF:PART-TARGET=1.000000\n#EXT-X-MEDIA-SEQUENCE:0\n#EXT-X-DISCONTINUITY-SEQUENCE:0\n\
-#EXT-X-MAP:URI=\"init0.mp4\"\n#EXT-X-PROGRAM-DATE-TIME:1970-01-01T00:00:00.000Z\n\
-#EXT-X-PART:DURATION=1.000000,URI=\"s0.0.m4s\",INDEPENDENT=YES\n#EXTINF:1.000000,\ns0.m4s\n\
-#EXT-X-PRELOAD-HINT:TYPE=PART,URI=\"s1.0.m4s\"\n";
-
-/// Returns what was sent, as a text.
-pub(crate) fn text_of(bytes: &[u8]) -> &str {
-    str::from_utf8(bytes).unwrap_or("bytes that are no text")
-}
+use std::os::fd::RawFd;
+use std::sync::atomic::{AtomicU64, Ordering};
+use std::sync::{Mutex, Wait};
 
 /// A gate that lets every answer through.
 #[derive(Clone, Copy)]
@@ -119,6 +94,17 @@ pub(crate) fn service<'a, L: Ledgers, R>(
     }
 }
 
+/// Which calls of a connection that don't wait would have to.
+#[derive(Clone, Copy)]
+pub(crate) enum Halts {
+    /// None.
+    Never,
+    /// The call with this number, from 0.
+    At(u64),
+    /// The first call, the third, and so on.
+    EachSecond,
+}
+
 /// How a connection gives and takes its bytes.
 #[derive(Clone, Copy)]
 pub(crate) struct Plan {
@@ -136,6 +122,7 @@ pub(crate) struct Plan {
     pub(crate) looks: u64,
     /// Whether the other end hangs up after its bytes.
     pub(crate) gone: bool,
+    pub(crate) halts: Halts,
 }
 
 /// The plan of a connection that gives and takes all bytes at once, and never fails.
@@ -147,33 +134,39 @@ pub(crate) const SOUND: Plan = Plan {
     whole: 100_000,
     looks: u64::MAX,
     gone: false,
+    halts: Halts::Never,
 };
 
-/// A connection that gives the bytes `rest`, and keeps what is sent. It fails at most once.
+/// What was sent on a connection, and how many calls that don't wait were made of it.
 #[derive(Drop)]
-pub(crate) struct Wire<'a> {
-    rest: &'a [u8],
-    plan: Plan,
-    sent: Vec<u8>,
-    failed: bool,
+pub(crate) struct Tape {
+    pub(crate) sent: Mutex<Vec<u8>>,
+    pub(crate) calls: AtomicU64,
 }
 
-impl<'a> Wire<'a> {
-    /// Returns a connection on which `bytes` come.
-    pub(crate) fn new(alloc: Global, bytes: &'a [u8], plan: Plan) -> Wire<'a> {
-        Wire {
-            rest: bytes,
-            plan,
-            sent: Vec::new(alloc),
-            failed: false,
+impl Tape {
+    /// Returns the tape of a connection that wasn't used.
+    pub(crate) fn new(alloc: Global) -> Tape {
+        Tape {
+            sent: Mutex::new(Vec::new(alloc)),
+            calls: AtomicU64::new(0),
         }
     }
+}
 
-    /// Returns what was sent.
-    pub(crate) fn into_sent(self) -> Vec<u8> {
-        self.sent
-    }
+/// A connection that gives the bytes `rest`, and puts what is sent on its tape. It fails at most once.
+#[derive(Drop)]
+pub(crate) struct Wire<'a, R> {
+    pub(crate) rt: &'a R,
+    pub(crate) rest: &'a [u8],
+    pub(crate) plan: Plan,
+    pub(crate) tape: &'a Tape,
+    /// Counts the writes that were made, also of other connections.
+    pub(crate) writes: &'a AtomicU64,
+    pub(crate) failed: bool,
+}
 
+impl<R> Wire<'_, R> {
     /// Returns how many of `all` bytes the next write takes.
     fn taken(&self, all: usize) -> usize
         ensures { result ≤ all }
@@ -184,9 +177,19 @@ impl<'a> Wire<'a> {
             all.min(self.plan.taken)
         }
     }
+
+    /// Counts a call that doesn't wait. Returns whether it would have to.
+    fn would_wait(&self) -> bool {
+        let call = self.tape.calls.fetch_add(1, Ordering::SeqCst);
+        match self.plan.halts {
+            Halts::Never => false,
+            Halts::At(number) => call == number,
+            Halts::EachSecond => call % 2 == 0,
+        }
+    }
 }
 
-impl Writer for Wire<'_> {
+impl<R: Wait> Writer for Wire<'_, R> {
     ghost written = { λ w. None };
 
     ghost failures = { λ w. if w.failed then 1 else 0 };
@@ -203,26 +206,34 @@ impl Writer for Wire<'_> {
         }
         let count = self.taken(all);
         let stuck = self.plan.writes == 0 || (count == 0 && all > 0);
-        if stuck || keep(&mut self.sent, first, second, count).is_err() {
+        if stuck || keep(self.rt, self.tape, first, second, count).is_err() {
             self.failed = true;
             return Err(Failed);
         }
         self.plan.writes -= 1;
         self.plan.whole = self.plan.whole.checked_sub(1).unwrap_or(100_000);
+        add_one(self.writes);
         Ok(count)
     }
 }
 
-/// Appends the first `count` bytes of `first` and `second`.
-fn keep(sent: &mut Vec<u8>, first: &[u8], second: &[u8], count: usize) -> Result<(), AllocError>
+/// Puts the first `count` bytes of `first` and `second` on a tape.
+fn keep<R: Wait>(
+    rt: &R,
+    tape: &Tape,
+    first: &[u8],
+    second: &[u8],
+    count: usize,
+) -> Result<(), AllocError>
     requires { count ≤ length first.now + length second.now }
 {
+    let mut sent = tape.sent.lock(rt);
     let front = count.min(first.len());
     sent.extend_from_slice(&first[..front])?;
     sent.extend_from_slice(&second[..count - front])
 }
 
-impl Link for Wire<'_> {
+impl<R: Wait> Link for Wire<'_, R> {
     fn read(&mut self, buf: &mut [u8]) -> Result<usize, Failed> {
         let count = self.plan.step.min(buf.len()).min(self.rest.len());
         if self.failed {
@@ -241,5 +252,33 @@ impl Link for Wire<'_> {
 
     fn gone(&mut self) -> bool {
         self.plan.gone
+    }
+}
+
+impl<R> Addressed for Wire<'_, R> {}
+
+impl<R: Wait> TryLink for Wire<'_, R> {
+    fn descriptor(&self) -> RawFd {
+        0
+    }
+
+    fn try_read(&mut self, buf: &mut [u8]) -> Result<Option<usize>, Failed> {
+        if self.would_wait() {
+            return Ok(None);
+        }
+        let count = self.read(buf)?;
+        Ok(Some(count))
+    }
+
+    fn try_write(&mut self, text: &[u8]) -> Result<Option<usize>, Failed> {
+        self.try_write_two(text, &[])
+    }
+
+    fn try_write_two(&mut self, first: &[u8], second: &[u8]) -> Result<Option<usize>, Failed> {
+        if self.would_wait() {
+            return Ok(None);
+        }
+        let count = self.write_two(first, second)?;
+        Ok(Some(count))
     }
 }

@@ -4,4 +4,4 @@ abbrev pub ghosts-publish_in_second-L-Named : goal.ghosts-publish_in_second-L-Na
 ghosts-publish_in_second-L-Named g a = record { names = a.blanks }
 
 abbrev pub ghosts-publish_in_second-L-Ledgers : goal.ghosts-publish_in_second-L-Ledgers
-ghosts-publish_in_second-L-Ledgers g a = record { channels = 2 }
+ghosts-publish_in_second-L-Ledgers g a = record { channels = 3 }

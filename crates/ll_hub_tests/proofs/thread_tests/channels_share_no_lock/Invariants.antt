@@ -4,4 +4,4 @@ abbrev pub ghosts-ask_both-L-Named : goal.ghosts-ask_both-L-Named
 ghosts-ask_both-L-Named g a = record { names = a.blanks }
 
 abbrev pub ghosts-ask_both-L-Ledgers : goal.ghosts-ask_both-L-Ledgers
-ghosts-ask_both-L-Ledgers g a = record { channels = 2 }
+ghosts-ask_both-L-Ledgers g a = record { channels = 3 }
