@@ -1,9 +1,9 @@
 #!/usr/bin/env bash
-# mutated_heads.sh PROGRAM: makes a thousand mutated heads from those of the rows of tests/connections with the channel `cam`, feeds each to a
-# connection of its own, in one piece and cut in two, and lets the clock pass all time-outs. Both runs have to write the same: whole responses alone,
-# each with as many bytes as it announces, and none after `shut`; and another connection, fed before and after, has to get its playlist. At least a
-# tenth are answered with a playlist or media, and at least a tenth are refused. The last line, `N passed, M failed`, counts heads, and a tenth that
-# was missed.
+# mutated_heads.sh PROGRAM: makes a thousand mutated heads, three fourths of them from those of the rows of tests/connections with the channel `cam`, and
+# the others from one with a long field, which is mostly answered still. It feeds each to a connection of its own, in one piece and cut in two, and lets
+# the clock pass all time-outs. Both runs have to write the same: whole responses alone, each with as many bytes as it announces, and none after `shut`;
+# and another connection, fed before and after, has to get its playlist. At least a tenth are answered with a playlist or media, and at least a tenth are
+# refused. The last line, `N passed, M failed`, counts heads, and a tenth that was missed.
 . "$(dirname "${BASH_SOURCE[0]}")/common.sh" || exit 2
 take_program "$1"
 most=1000
@@ -18,6 +18,7 @@ while read -r _ _ hex; do
     fi
 done < <(grep -l '^channel cam ' "$here"/connections/* | while read -r row; do "$here/hex_lines.sh" whole <"$row"; done | grep '^bytes')
 plain=474554202f63616d2f68692f6c6976652e6d33753820485454502f312e310d0a486f73743a20610d0a0d0a
+long=${plain%0d0a}557365722d4167656e743a20$(printf '61%.0s' {1..100})0d0a0d0a
 
 # change: changes one or two bytes of `hex`: gives one another value, removes it, doubles it, replaces it by one of those that heads are made of, or
 # cuts off what follows it.
@@ -68,6 +69,9 @@ is_right() {
 
 for ((number = 0; number < most; number++)); do
     hex=${heads[number % ${#heads[@]}]}
+    if [ $((number % 4)) = 0 ]; then
+        hex=$long
+    fi
     change
     cut=$((2 * (RANDOM % (${#hex} / 2 + 1))))
     script "$hex" >"$room/whole"
