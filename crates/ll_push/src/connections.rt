@@ -69,10 +69,13 @@ pub fn push<R: Reader, C: Calendar, S: Source, W: Watch>(
         let Some(mut link) = origin.next() else {
             return Err(PushFault::Connect);
         };
-        match publisher.publish_on(alloc, target, source, clock, &mut link, watch)? {
-            Step::Whole => return Ok(Ending::Whole),
-            Step::Refused(line) => return Ok(Ending::Refused(line)),
-            Step::Gone { accepted } => idle = idle_after(accepted, idle),
+        let step = publisher.publish_on(alloc, target, source, clock, &mut link, watch);
+        drop(link);
+        match step {
+            Ok(Step::Whole) => return Ok(Ending::Whole),
+            Ok(Step::Refused(line)) => return Ok(Ending::Refused(line)),
+            Ok(Step::Gone { accepted }) => idle = idle_after(accepted, idle),
+            Err(fault) => return Err(fault),
         }
         if idle > tries {
             return Err(PushFault::Connect);
