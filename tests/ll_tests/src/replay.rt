@@ -1,0 +1,3 @@
+//! Tests of `ll_replay`.
+
+mod replay_tests;
