@@ -1,7 +1,7 @@
 #!/usr/bin/env bash
-# Proves every crate from nothing, runs the crates' tests, and looks for each must-fail edit in its file, for what crates.txt lists, and at what `make
-# build` prints. Beside that, a tenth of the rows run on the program as `rt try --cases` builds it, with checks and from the sources alone (`make try`
-# runs all of them so). Once the program is proved, each row runs on it, as each compiler of the toolchain builds it. Beside these, the proved program
+# Proves every crate from nothing, and looks for each must-fail edit in its file, for what crates.txt lists, and at what `make build` prints. Beside
+# that, the crates' tests run as `rt try` builds them, with checks and from the sources alone, and some rows on the program that it builds so (`make
+# try` runs all of them). Once the program is proved, each row runs on it, as each compiler of the toolchain builds it. Beside these, the proved program
 # is tested with devices that give and take a few bytes at a time, large inputs, mutated playlists, mutated records, records in format 2, entries that
 # are explained, the bytes of connections cut in every way, connections that end too early, mutated heads, and calls whose memory is refused; and with
 # the server's addresses, log, what is published to it, and its records, which mostly wait; and its Debian package (SLOW=1: installed in a clean Debian too). Then
@@ -62,7 +62,8 @@ start tests/listed.py
 start tests/build_lines.sh
 # With RT_JOBS, a run doesn't plan with several times the memory that a check takes, which would have fewer crates side by side.
 lanes=${RT_JOBS:-$(nproc)}
-begin nice -n 5 tests/try_rows.sh 10
+begin nice -n 5 tests/try_tests.sh
+begin nice -n 5 tests/try_rows.sh 40
 # A line for each crate shows that the proofs go on.
 prove_chain "$room" crates.txt </dev/null > >(tell "$(grep -c '^[a-z]' crates.txt)") 2>&1
 echo "== rt ci"
