@@ -184,7 +184,6 @@ tell() {
         'logic=proved functions='*)
             line=${line#*functions=} functions[$crate]=${line%% *}
             ;;
-        'rt: '*': its tests are proved') ;;
         'rt: '*' proved')
             line=${line#rt: } crate=${line% proved}
             [ -n "${told[$crate]-}" ] && continue
