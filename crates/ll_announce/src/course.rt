@@ -14,7 +14,7 @@ use std::alloc::{AllocError, Global};
 
 /// Where a rendition goes on after all that was announced so far. Times are in microseconds since 1970-01-01T00:00:00Z, at most
 /// 2^64 - 1.
-#[derive(Clone, Copy, Debug, PartialEq, Eq)]
+#[derive(Clone, Copy)]
 pub struct Course {
     /// The place of the next part.
     pub place: Place,

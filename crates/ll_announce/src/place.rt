@@ -5,7 +5,7 @@ ghost use Rattle.ll_announce.specs.Places.{led};
 use crate::said::Said;
 
 /// The place of a rendition's next part. Its numbers stop at 2^64 - 1.
-#[derive(Clone, Copy, Debug, PartialEq, Eq)]
+#[derive(Clone, Copy, PartialEq, Eq)]
 pub struct Place {
     /// Its Media Sequence Number.
     pub number: u64,

@@ -1,6 +1,6 @@
 //! What a message announces, without its bytes.
 /// What a message announces, without its bytes.
-#[derive(Clone, Copy, Debug, PartialEq, Eq)]
+#[derive(Clone, Copy)]
 pub enum Said {
     /// An initialization section.
     Init,

@@ -8,7 +8,7 @@ use ll_attr::after;
 use ll_format::{flag_at, number, until};
 
 /// Where a rendition stands.
-#[derive(Clone, Copy, Debug, PartialEq, Eq)]
+#[derive(Clone, Copy)]
 pub struct Standing {
     /// The number of items that the channel has accepted.
     pub count: u64,

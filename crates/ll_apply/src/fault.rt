@@ -6,7 +6,7 @@ use std::error::Error;
 use std::fmt;
 
 /// The reason that there is no full playlist: the first of these that applies.
-#[derive(Clone, Copy, Debug, PartialEq, Eq)]
+#[derive(Clone, Copy, Debug)]
 pub enum ApplyFault {
     /// The earlier text is no full playlist of this profile: it is no playlist at all, or a delta update itself. In the first case `ll_read::read`
     /// returns the line that isn't allowed in its place.

@@ -11,7 +11,7 @@ use std::marker::Model;
 use thiserror::Error;
 
 /// The value of an attribute (section 4.2).
-#[derive(Debug, Drop)]
+#[derive(Drop)]
 pub enum AttrValue {
     /// The text between quotation marks, without a quotation mark, CR or LF (quoted-string).
     Quoted(Text),
@@ -20,7 +20,7 @@ pub enum AttrValue {
 }
 
 /// A name and its value.
-#[derive(Debug, Drop)]
+#[derive(Drop)]
 pub struct Attribute {
     /// One or more characters A-Z, 0-9 and `-`, compared byte by byte.
     pub name: Text,
@@ -58,7 +58,7 @@ impl PartialEq for Attribute {
 
 /// The first fault, from the left, of a text that is no attribute list. Within a pair, its name comes first, then that it
 /// is given twice, then its value; `Memory` comes after all of them.
-#[derive(Clone, Copy, Debug, PartialEq, Eq, Error)]
+#[derive(Clone, Copy, Debug, Error)]
 pub enum AttrFault {
     /// A name is empty, has a character outside A-Z, 0-9 and `-`, or has no equals sign after it.
     #[error("BadName")]
@@ -86,7 +86,7 @@ impl From<AllocError> for AttrFault {
 
 /// An attribute list: names with their values, in the order in which they were written, no name twice (section 4.2). The
 /// list without attributes is a value too, though no text spells it.
-#[derive(Debug, Drop)]
+#[derive(Drop)]
 pub struct AttrList {
     attributes: Vec<Attribute>,
 }

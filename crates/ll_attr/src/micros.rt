@@ -11,7 +11,7 @@ use std::alloc::{AllocError, Global};
 use std::fmt;
 
 /// A duration in microseconds, shown as seconds with six decimals.
-#[derive(Clone, Copy, Debug, PartialEq, Eq)]
+#[derive(Clone, Copy)]
 pub struct Micros(pub u64);
 
 #[tactic(auto, unfolding(crate::specs::Durations::seconds))]

@@ -8,7 +8,7 @@ use std::fmt;
 use std::marker::Model;
 
 /// An owned text, which contracts see as its bytes.
-#[derive(Debug, Drop)]
+#[derive(Drop)]
 pub struct Text {
     string: String,
 }

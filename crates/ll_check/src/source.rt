@@ -12,7 +12,7 @@ use ll_entry::CheckFault;
 use std::alloc::Global;
 
 /// Why a record that is read in pieces has no answer.
-#[derive(Clone, Copy, Debug)]
+#[derive(Clone, Copy)]
 pub enum RecordFault {
     /// It is wrong, or out of memory.
     Wrong(CheckFault),

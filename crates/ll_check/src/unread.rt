@@ -14,7 +14,7 @@ const PIECE: usize = 65_536;
 const MOST_READS: u64 = 1 << 32;
 
 /// Why no more of a record was read.
-#[derive(Clone, Copy, Debug)]
+#[derive(Clone, Copy)]
 pub enum ReadFault {
     /// A read failed.
     Read,

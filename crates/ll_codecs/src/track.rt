@@ -14,7 +14,7 @@ use ll_mp4::{Kind, StreamFault, next_of, only};
 use std::alloc::Global;
 
 /// The size of pictures, in pixels.
-#[derive(Clone, Copy, Debug, PartialEq, Eq)]
+#[derive(Clone, Copy)]
 pub struct Picture {
     /// The number of pixels of a row.
     pub width: u16,
@@ -23,7 +23,7 @@ pub struct Picture {
 }
 
 /// A track of a Media Initialization Section.
-#[derive(Debug, Drop)]
+#[derive(Drop)]
 pub struct Track {
     /// The codec of its samples, as RFC 6381 spells it.
     pub codec: Text,

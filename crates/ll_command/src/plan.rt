@@ -13,7 +13,7 @@ const RETRY: u64 = 60;
 const KEEP: u64 = 1 << 26;
 
 /// How an encoder's output is published.
-#[derive(Clone, Copy, Debug)]
+#[derive(Clone, Copy)]
 pub struct Plan {
     /// The durations of parts and segments.
     pub lengths: Lengths,

@@ -5,7 +5,7 @@ use std::fmt;
 use std::net::SocketAddr;
 
 /// Where an origin listens for publishers.
-#[derive(Debug, Drop, PartialEq, Eq)]
+#[derive(Drop, PartialEq, Eq)]
 pub enum Address {
     /// At an IP address and a port.
     Ip(SocketAddr),

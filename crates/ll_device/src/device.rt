@@ -5,7 +5,7 @@ ghost use Rattle.ll_device.specs.Inward.{Inward, untold};
 ghost use Rattle.ll_device.specs.Written.{AppendsPrefix};
 
 /// The failure of a device in a read or a write.
-#[derive(Clone, Copy, Debug, PartialEq, Eq)]
+#[derive(Clone, Copy, Debug)]
 pub struct Failed;
 
 /// A source of bytes, which come in any pieces.

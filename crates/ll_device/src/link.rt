@@ -70,7 +70,7 @@ pub trait TryLink: Link {
 }
 
 /// Who is at the other end of a connection.
-#[derive(Clone, Copy, Debug, PartialEq, Eq)]
+#[derive(Clone, Copy)]
 pub enum Role {
     /// A player, which requests playlists and media over HTTP/1.1.
     Player,

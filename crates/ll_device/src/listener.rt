@@ -35,7 +35,7 @@ enum Port {
 }
 
 /// Where a listener listens.
-#[derive(Clone, Copy, Debug)]
+#[derive(Clone, Copy)]
 pub enum Place<'a> {
     /// At an IP address and a port.
     Ip(SocketAddr),

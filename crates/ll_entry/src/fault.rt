@@ -28,7 +28,7 @@ pub enum CheckKind {
 }
 
 /// Where and how a chain of chunks is wrong.
-#[derive(Clone, Copy, Debug, PartialEq, Eq)]
+#[derive(Clone, Copy, PartialEq, Eq)]
 pub struct CheckFault {
     /// The number of the entry, from 1: one more than the entries that are right.
     pub entry: u64,

@@ -33,7 +33,7 @@ pub struct SpoolFiles<'a, R> {
 }
 
 /// The files of a spool can't be used; why was said on standard error.
-#[derive(Clone, Copy, Debug, PartialEq, Eq)]
+#[derive(Clone, Copy)]
 pub struct Unusable;
 
 impl<'a, R: Files<File = File> + Eprint> SpoolFiles<'a, R> {

@@ -15,7 +15,7 @@ const MILLIS_PER_DAY: u64 = 86_400_000;
 
 /// A moment in UTC, to the millisecond, from 1970 to the end of the year 9999. It is written as EXT-X-PROGRAM-DATE-TIME
 /// spells it, `YYYY-MM-DDThh:mm:ss.mmmZ` (section 4.4.4.6 of draft-pantos-hls-rfc8216bis).
-#[derive(Clone, Copy, Debug)]
+#[derive(Clone, Copy)]
 pub struct UtcTime {
     millis: u64,
 }

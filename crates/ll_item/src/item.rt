@@ -87,7 +87,7 @@ impl PartItem {
 }
 
 /// Why a line is no item.
-#[derive(Clone, Copy, Debug, PartialEq, Eq, Error)]
+#[derive(Clone, Copy, Debug, Error)]
 pub enum ItemFault {
     /// The line has the form of no item.
     #[error("BadLine")]

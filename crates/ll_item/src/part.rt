@@ -1,7 +1,7 @@
 //! Partial Segments, as their renditions keep them.
 
 /// A Partial Segment as its rendition keeps it: without its bytes (EXT-X-PART, section 4.4.4.9).
-#[derive(Clone, Copy, Debug, PartialEq, Eq)]
+#[derive(Clone, Copy, PartialEq, Eq)]
 pub struct Part {
     /// The duration in microseconds.
     pub duration: u64,

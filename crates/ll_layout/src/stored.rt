@@ -2,7 +2,7 @@
 use crate::side::Side;
 
 /// The place of an item's bytes among those of its rendition.
-#[derive(Clone, Copy, Debug, PartialEq, Eq)]
+#[derive(Clone, Copy)]
 pub struct Place {
     /// The file.
     pub side: Side,
@@ -13,7 +13,7 @@ pub struct Place {
 }
 
 /// The bytes of one item.
-#[derive(Clone, Copy, Debug, PartialEq, Eq)]
+#[derive(Clone, Copy)]
 pub struct Stored {
     /// The number of the item in its channel.
     pub count: u64,
@@ -22,7 +22,7 @@ pub struct Stored {
 }
 
 /// A part whose bytes are kept.
-#[derive(Clone, Copy, Debug, PartialEq, Eq)]
+#[derive(Clone, Copy)]
 pub(crate) struct KeptPart {
     /// The Media Sequence Number of its segment.
     pub(crate) number: u64,
@@ -31,7 +31,7 @@ pub(crate) struct KeptPart {
 }
 
 /// A Media Initialization Section whose bytes are kept (EXT-X-MAP, section 4.4.4.5).
-#[derive(Clone, Copy, Debug, PartialEq, Eq)]
+#[derive(Clone, Copy)]
 pub struct Section {
     /// Its map number.
     pub(crate) map: u64,

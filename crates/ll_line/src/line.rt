@@ -5,7 +5,7 @@ use crate::uri::Uri;
 use ll_attr::Micros;
 
 /// EXT-X-SERVER-CONTROL (section 4.4.3.8).
-#[derive(Clone, Copy, Debug)]
+#[derive(Clone, Copy)]
 pub struct Control {
     /// The distance from the end of the playlist that players keep (PART-HOLD-BACK).
     pub hold_back: Micros,
@@ -16,7 +16,7 @@ pub struct Control {
 }
 
 /// EXT-X-DATERANGE (section 4.4.5.1).
-#[derive(Clone, Copy, Debug)]
+#[derive(Clone, Copy)]
 pub struct DateRange<'a> {
     /// The value of the ID attribute.
     pub id: &'a str,
@@ -25,7 +25,7 @@ pub struct DateRange<'a> {
 }
 
 /// EXT-X-SKIP (section 4.4.5.2).
-#[derive(Clone, Copy, Debug)]
+#[derive(Clone, Copy)]
 pub struct Skip<'a> {
     /// The number of segments that are skipped.
     pub count: u64,
@@ -34,7 +34,7 @@ pub struct Skip<'a> {
 }
 
 /// EXT-X-PART (section 4.4.4.9).
-#[derive(Clone, Copy, Debug)]
+#[derive(Clone, Copy)]
 pub struct PartLine<'a> {
     /// The duration (DURATION).
     pub duration: Micros,
@@ -45,7 +45,7 @@ pub struct PartLine<'a> {
 }
 
 /// EXT-X-RENDITION-REPORT (section 4.4.5.4): the position of another rendition.
-#[derive(Clone, Copy, Debug)]
+#[derive(Clone, Copy)]
 pub struct Report<'a> {
     /// The URI of the rendition's playlist.
     pub uri: Uri<'a>,
@@ -56,7 +56,7 @@ pub struct Report<'a> {
 }
 
 /// A line of a playlist, without its end and whatever its place.
-#[derive(Clone, Copy, Debug)]
+#[derive(Clone, Copy)]
 pub enum Line<'a> {
     /// EXTM3U (section 4.4.1.1).
     First,

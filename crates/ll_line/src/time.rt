@@ -6,7 +6,7 @@ use ll_format::UtcTime;
 use std::fmt;
 
 /// The time of an EXT-X-PROGRAM-DATE-TIME line (section 4.4.4.6).
-#[derive(Clone, Copy, Debug)]
+#[derive(Clone, Copy)]
 pub enum DateTime<'a> {
     /// The time itself.
     Utc(&'a UtcTime),

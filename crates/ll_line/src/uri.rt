@@ -5,7 +5,7 @@ ghost use Rattle.ll_line.specs.Uris.{uri_text};
 use std::fmt;
 
 /// A URI in a line. How the first four are spelled is this origin's own choice.
-#[derive(Clone, Copy, Debug)]
+#[derive(Clone, Copy)]
 pub enum Uri<'a> {
     /// The segment with this Media Sequence Number.
     Segment { number: u64 },

@@ -9,7 +9,7 @@ use crate::kind::Kind;
 use byteorder::{BigEndian, ByteOrder};
 
 /// A box's header.
-#[derive(Clone, Copy, Debug, PartialEq, Eq)]
+#[derive(Clone, Copy)]
 pub struct BoxHead {
     /// The four bytes of the type as a big-endian number.
     pub kind: u32,

@@ -4,7 +4,7 @@ use std::alloc::AllocError;
 use thiserror::Error;
 
 /// The reason for which an encoder's bytes are refused.
-#[derive(Clone, Copy, Debug, PartialEq, Eq, Error)]
+#[derive(Clone, Copy, Debug, Error)]
 pub enum StreamFault {
     /// A box whose size is less than that of its header (also 0, by which a box extends to the end of the file), that ends after the box around it,
     /// or that is too short for its fields.

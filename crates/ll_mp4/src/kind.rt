@@ -5,7 +5,7 @@ ghost use Rattle.ll_mp4.specs.Kinds.{code, name};
 use std::fmt;
 
 /// The type of a box that is read.
-#[derive(Clone, Copy, Debug, PartialEq, Eq)]
+#[derive(Clone, Copy, Debug)]
 pub enum Kind {
     /// The movie, with which its unit ends (section 8.2.1).
     Moov,

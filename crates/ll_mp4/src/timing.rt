@@ -16,7 +16,7 @@ use crate::runs::{defaults_of, read_runs};
 use crate::track::Track;
 
 /// The times of a fragment of its movie's governing track.
-#[derive(Clone, Copy, Debug, PartialEq, Eq)]
+#[derive(Clone, Copy)]
 pub struct Timing {
     /// The decode time of its first sample, in ticks (section 8.8.12).
     pub time: Option<u64>,
@@ -27,7 +27,7 @@ pub struct Timing {
 }
 
 /// A decode time (section 8.8.12).
-#[derive(Clone, Copy, Debug, PartialEq, Eq)]
+#[derive(Clone, Copy)]
 pub struct Moment {
     /// The time, in ticks.
     pub time: u64,

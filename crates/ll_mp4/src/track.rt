@@ -1,7 +1,7 @@
 //! The tracks of a movie.
 
 /// The time scale of a movie's track.
-#[derive(Clone, Copy, Debug, PartialEq, Eq)]
+#[derive(Clone, Copy)]
 pub struct TimeScale {
     /// The track's ID (section 8.3.2).
     pub id: u32,
@@ -18,7 +18,7 @@ pub(crate) struct Listed {
 }
 
 /// A track with the defaults of its fragments.
-#[derive(Clone, Copy, Debug, PartialEq, Eq)]
+#[derive(Clone, Copy)]
 pub struct Track {
     /// Its ID (section 8.3.2).
     pub id: u32,

@@ -24,7 +24,7 @@ pub trait Outlets {
 }
 
 /// How giving messages ended.
-#[derive(Clone, Copy, Debug, PartialEq, Eq)]
+#[derive(Clone, Copy)]
 pub enum Fed {
     /// All were given.
     Whole,

@@ -14,7 +14,7 @@ use ll_push::{Asked, Delivery, PushFault, Watch, ask, deliver};
 use std::alloc::Global;
 
 /// How far an origin is known to be.
-#[derive(Clone, Copy, Debug)]
+#[derive(Clone, Copy)]
 pub struct Progress {
     /// The place of the rendition's next part after all that the origin is known to have accepted.
     pub place: Place,
@@ -39,7 +39,7 @@ pub(crate) enum Step {
 }
 
 /// Where an origin's messages go on.
-#[derive(Clone, Copy, Debug)]
+#[derive(Clone, Copy)]
 pub(crate) enum Resumed {
     /// With the first that the origin doesn't have.
     On,

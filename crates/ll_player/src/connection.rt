@@ -23,7 +23,7 @@ use std::os::fd::RawFd;
 use std::sync::Wait;
 
 /// What a connection waits for after a step.
-#[derive(Clone, Copy, Debug, PartialEq, Eq)]
+#[derive(Clone, Copy, PartialEq, Eq)]
 pub enum Step {
     /// More bytes from its player.
     Idle,

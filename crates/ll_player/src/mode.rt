@@ -20,11 +20,11 @@ pub(crate) trait Mode<P: Link> {
 }
 
 /// Waits until a link takes some bytes.
-#[derive(Clone, Copy, Debug)]
+#[derive(Clone, Copy)]
 pub(crate) struct Blocking;
 
 /// Never waits for a link.
-#[derive(Clone, Copy, Debug)]
+#[derive(Clone, Copy)]
 pub(crate) struct Nonblocking;
 
 impl<P: Link> Mode<P> for Blocking {

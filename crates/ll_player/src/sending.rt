@@ -15,7 +15,7 @@ use ll_wire::Slices;
 use std::sync::Wait;
 
 /// How many answers of a connection were begun, and whether the first of those that are left was.
-#[derive(Clone, Copy, Debug)]
+#[derive(Clone, Copy)]
 pub(crate) struct Begun {
     pub(crate) answers: u64,
     first: bool,

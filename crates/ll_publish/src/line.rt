@@ -11,7 +11,7 @@ use std::str;
 pub(crate) const LINE_LIMIT: usize = 4_096;
 
 /// A line of a publisher, with its item's bytes, which follow it.
-#[derive(Clone, Copy, Debug)]
+#[derive(Clone, Copy)]
 pub enum Line<'a> {
     /// The name of a channel, the line of an item for it without the number of the item's bytes, and these bytes, perhaps none. None of
     /// them is checked.

@@ -6,7 +6,7 @@ use ll_item::ItemFault;
 use ll_verdict::PublishFault;
 
 /// Why a publisher's line is refused.
-#[derive(Clone, Copy, Debug, PartialEq, Eq)]
+#[derive(Clone, Copy, PartialEq, Eq)]
 pub enum Refusal {
     /// The fault of an item that its channel doesn't accept.
     Rule(PublishFault),

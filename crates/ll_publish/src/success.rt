@@ -2,7 +2,7 @@
 use ll_verdict::Standing;
 
 /// The answer to a publisher's line that isn't refused.
-#[derive(Clone, Copy, Debug, PartialEq, Eq)]
+#[derive(Clone, Copy)]
 pub enum Success {
     /// The number of items that the channel has with the line's item, which it accepted.
     Accepted(u64),

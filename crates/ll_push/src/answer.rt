@@ -30,7 +30,7 @@ pub(crate) enum Answer {
 }
 
 /// Why there is no answer.
-#[derive(Clone, Copy, Debug, PartialEq, Eq)]
+#[derive(Clone, Copy)]
 pub(crate) enum NoAnswer {
     /// The connection was lost before the answer's end.
     Lost,

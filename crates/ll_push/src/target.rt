@@ -3,7 +3,7 @@ use ll_announce::Names;
 use ll_parts::Lengths;
 
 /// Where and how an encoder's output is published.
-#[derive(Clone, Copy, Debug)]
+#[derive(Clone, Copy)]
 pub struct Target<'a> {
     /// The channel and the rendition.
     pub names: Names<'a>,

@@ -12,7 +12,7 @@ use std::marker::Model;
 use std::sync::Arc;
 
 /// What is kept of a date range under its id.
-#[derive(Debug, Drop)]
+#[derive(Drop)]
 pub(crate) struct RangeEntry {
     pub(crate) attributes: Text,
     pub(crate) added: u64,
@@ -30,7 +30,7 @@ impl Clone for RangeEntry {
 }
 
 /// Date ranges by their ids, in order of adding.
-#[derive(Debug, Drop)]
+#[derive(Drop)]
 struct RangeMap {
     entries: IndexMap<String, RangeEntry>,
 }
@@ -135,7 +135,7 @@ impl RangeMap {
 }
 
 /// The date ranges that are listed, in order of adding. All copies share one map, and a copy that changes gets a map of its own first.
-#[derive(Debug, Drop)]
+#[derive(Drop)]
 pub(crate) struct ListedRanges {
     alloc: Global,
     /// The map, or `None` before the first date range, which takes no memory.

@@ -12,7 +12,7 @@ use std::marker::Model;
 use thiserror::Error;
 
 /// A rule that refuses to add or to remove a date range. If several apply, the first in this order counts.
-#[derive(Clone, Copy, Debug, PartialEq, Eq, Error)]
+#[derive(Clone, Copy, Debug, Error)]
 pub enum RangeFault {
     /// A date range with this id is listed, or was removed recently (section 4.4.5.2).
     #[error("IdTaken")]
@@ -27,7 +27,7 @@ pub enum RangeFault {
 }
 
 /// Why a date range isn't added or isn't removed.
-#[derive(Clone, Copy, Debug, PartialEq, Eq, Error)]
+#[derive(Clone, Copy, Debug, Error)]
 pub enum RangeError {
     /// The first rule that refuses it.
     #[error("{0}")]
@@ -38,7 +38,7 @@ pub enum RangeError {
 }
 
 /// A date range that a playlist lists (EXT-X-DATERANGE, section 4.4.5.1).
-#[derive(Clone, Copy, Debug)]
+#[derive(Clone, Copy)]
 pub struct DateRange<'a> {
     /// The value of the ID attribute.
     pub id: &'a str,
@@ -50,7 +50,6 @@ pub struct DateRange<'a> {
 
 /// The date ranges of one rendition: those that are listed, in order of adding, and the recent removals, in order of removal.
 /// A removal is recent while the parts after it last no longer than the Skip Boundary (section 4.4.5.2).
-#[derive(Debug)]
 pub struct Ranges {
     pub(crate) limit: u64,
     pub(crate) listed: ListedRanges,

@@ -2,7 +2,7 @@
 use thiserror::Error;
 
 /// The reason that bytes are no playlist: the first of these that applies.
-#[derive(Clone, Copy, Debug, PartialEq, Eq, Error)]
+#[derive(Clone, Copy, Debug, Error)]
 pub enum ReadFault {
     /// They aren't UTF-8, or don't begin with the line `#EXTM3U` (section 4.4.1.1).
     #[error("NotPlaylist")]

@@ -17,7 +17,7 @@ use std::alloc::Global;
 use std::str;
 
 /// A playlist without its texts.
-#[derive(Clone, Copy, Debug, PartialEq, Eq)]
+#[derive(Clone, Copy, Debug)]
 pub struct Outline {
     /// The Media Sequence Number of its first segment (section 4.4.3.2).
     pub sequence: u64,

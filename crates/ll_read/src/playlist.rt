@@ -8,7 +8,7 @@ use ll_line::DateRange;
 use std::marker::Model;
 
 /// An EXT-X-PART line (section 4.4.4.9).
-#[derive(Debug, Drop)]
+#[derive(Drop)]
 pub struct PartLine {
     /// The duration of the part, in microseconds.
     pub duration: u64,
@@ -25,7 +25,7 @@ impl Model for PartLine {
 }
 
 /// The lines of a segment before its EXTINF line.
-#[derive(Debug, Drop)]
+#[derive(Drop)]
 pub struct Block {
     /// Whether the segment begins with a discontinuity (section 4.4.4.3).
     pub broken: bool,
@@ -45,7 +45,7 @@ impl Model for Block {
 }
 
 /// A segment with its EXTINF line and its URI.
-#[derive(Debug, Drop)]
+#[derive(Drop)]
 pub struct Finished {
     pub block: Block,
     /// The duration of the segment, in microseconds (section 4.4.4.1).
@@ -62,7 +62,7 @@ impl Model for Finished {
 }
 
 /// An EXT-X-SKIP line (section 4.4.5.2).
-#[derive(Debug, Drop)]
+#[derive(Drop)]
 pub struct Skip {
     /// The number of segments that it stands for.
     pub count: u64,
@@ -80,7 +80,7 @@ impl Model for Skip {
 }
 
 /// The position of another rendition (EXT-X-RENDITION-REPORT, section 4.4.5.4).
-#[derive(Debug, Drop)]
+#[derive(Drop)]
 pub struct Report {
     pub uri: Text,
     /// The Media Sequence Number of its last segment with a part.
@@ -98,7 +98,7 @@ impl Model for Report {
 }
 
 /// What stays the same while the stream goes on.
-#[derive(Debug, Drop)]
+#[derive(Drop)]
 pub struct Header {
     /// The protocol version (section 4.4.1.2).
     pub version: u64,
@@ -130,7 +130,7 @@ impl Model for Header {
 }
 
 /// A Media Playlist or a Playlist Delta Update.
-#[derive(Debug, Drop)]
+#[derive(Drop)]
 pub struct Playlist {
     pub header: Header,
     /// The Media Sequence Number of the first segment (section 4.4.3.2).

@@ -14,7 +14,7 @@ use ll_window::{Window, WindowFault};
 use std::alloc::{AllocError, Global};
 
 /// What is kept of one rendition.
-#[derive(Debug, Drop)]
+#[derive(Drop)]
 pub struct Rendition {
     /// The segments and parts.
     pub window: Window,

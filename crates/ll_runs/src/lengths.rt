@@ -1,7 +1,7 @@
 //! The lengths by which a stream is cut.
 
 /// The lengths of parts and segments, in microseconds.
-#[derive(Clone, Copy, Debug, PartialEq, Eq)]
+#[derive(Clone, Copy)]
 pub struct Lengths {
     /// The longest part.
     pub part: u64,

@@ -14,7 +14,7 @@ pub const SIZE_LIMIT: usize = 1_048_576;
 pub(crate) const LAST_MICRO: u128 = 253_402_300_799_999_999;
 
 /// The times of a run: of the fragments between two jumps of their decode times.
-#[derive(Clone, Copy, Debug, PartialEq, Eq)]
+#[derive(Clone, Copy)]
 pub struct Times {
     /// The tick at which the run begins.
     pub base: u64,
@@ -35,7 +35,7 @@ pub struct Times {
 }
 
 /// The successor of a fragment.
-#[derive(Clone, Copy, Debug, PartialEq, Eq)]
+#[derive(Clone, Copy)]
 pub enum Next {
     /// Nothing of this movie.
     Over,
@@ -46,7 +46,7 @@ pub enum Next {
 }
 
 /// The cut before a fragment: what ends there.
-#[derive(Clone, Copy, Debug, PartialEq, Eq)]
+#[derive(Clone, Copy)]
 pub enum Cut {
     /// Nothing: it joins the part under way.
     Joins,
@@ -57,7 +57,7 @@ pub enum Cut {
 }
 
 /// The times of a fragment whose successor is known, and the cut before it.
-#[derive(Clone, Copy, Debug, PartialEq, Eq)]
+#[derive(Clone, Copy)]
 pub struct Judged {
     /// The microsecond of the run at which it begins.
     pub begin: u64,
@@ -73,7 +73,7 @@ pub struct Judged {
 
 /// What counts of a fragment: the duration of its samples in ticks, whether it begins with a sync sample, and the bytes of it and of what goes with
 /// it.
-#[derive(Clone, Copy, Debug, PartialEq, Eq)]
+#[derive(Clone, Copy)]
 pub struct Weight {
     pub ticks: u64,
     pub sync: bool,
@@ -246,7 +246,7 @@ pub fn next_at(lengths: &Lengths, scale: u32, position: u64, time: u64) -> Next
 }
 
 /// Two ticks of a track with `scale` ticks in a second.
-#[derive(Clone, Copy, Debug)]
+#[derive(Clone, Copy)]
 pub struct Span {
     pub scale: u32,
     pub first: u64,

@@ -25,7 +25,7 @@ use std::str;
 use thiserror::Error;
 
 /// Why a line can't be read.
-#[derive(Clone, Copy, Debug, PartialEq, Eq, Error)]
+#[derive(Clone, Copy, Debug, Error)]
 pub enum LineFault {
     /// No script has this line in this place.
     #[error("BadLine")]

@@ -3,7 +3,7 @@ use crate::owner::Owner;
 use ll_verdict::{ClockFault, PublishFault, Reply};
 
 /// What ran out of memory while a request was made.
-#[derive(Clone, Copy, Debug, PartialEq, Eq)]
+#[derive(Clone, Copy)]
 pub enum AskStop {
     /// The request in its channel; nothing has changed.
     Request,

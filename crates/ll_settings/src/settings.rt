@@ -16,7 +16,7 @@ use std::marker::Model;
 use thiserror::Error;
 
 /// Why settings are refused. If several apply, the first in this order counts, except that `BadLine` comes before all others.
-#[derive(Clone, Copy, Debug, PartialEq, Eq, Error)]
+#[derive(Clone, Copy, Debug, Error)]
 pub enum SettingsFault {
     /// The target duration is outside 1 to 60 seconds.
     #[error("BadTarget")]
@@ -58,7 +58,7 @@ impl From<AllocError> for SettingsFault {
 }
 
 /// The settings of one channel, within the limits.
-#[derive(Debug, Drop)]
+#[derive(Drop)]
 pub struct Settings {
     channel: Text,
     numbers: Numbers,
@@ -93,7 +93,7 @@ fn is_same(a: &Settings, b: &Settings) -> bool
 }
 
 /// The numbers among the settings.
-#[derive(Clone, Copy, Debug, PartialEq, Eq)]
+#[derive(Clone, Copy, PartialEq, Eq)]
 pub(crate) struct Numbers {
     pub(crate) target: u64,
     pub(crate) part_target: u64,

@@ -3,7 +3,7 @@ ghost use Rattle.std.specs.Prelude.{◌≡◌};
 ghost use Rattle.ll_shift.specs.Times as spec;
 
 /// The move of the times of a run of fragments: the tick of the movie's governing track at which the run begins is moved to the end of the rendition.
-#[derive(Clone, Copy, Debug, PartialEq, Eq)]
+#[derive(Clone, Copy)]
 pub struct Shift {
     /// The tick of the governing track at which the run begins.
     pub base: u64,

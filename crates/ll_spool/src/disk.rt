@@ -8,7 +8,7 @@ ghost use Rattle.ll_spool.specs.Files.{Files, IsChanged, IsReadAt};
 use ll_layout::{Place, Side};
 
 /// A call of a disk failed.
-#[derive(Clone, Copy, Debug, PartialEq, Eq)]
+#[derive(Clone, Copy)]
 pub struct Lost;
 
 /// The files of a channel's spool: the text of its items, and for each rendition the two sides of their bytes.

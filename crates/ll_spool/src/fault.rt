@@ -6,11 +6,11 @@ use ll_layout::AddFault;
 use std::alloc::AllocError;
 
 /// An item wasn't kept, and no later one of its channel will be until the server is started again.
-#[derive(Clone, Copy, Debug, PartialEq, Eq)]
+#[derive(Clone, Copy)]
 pub struct NotKept;
 
 /// Why a spool can't be restored.
-#[derive(Clone, Copy, Debug, PartialEq, Eq)]
+#[derive(Clone, Copy)]
 pub enum RestoreFault {
     /// The line of this number, counted from 1, can't stand in its place: it isn't the line of the channel's settings, or of the next item;
     /// or the channel refuses its item; or its item's bytes may still be asked for, and aren't there whole.

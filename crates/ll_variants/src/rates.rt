@@ -6,7 +6,7 @@ ghost use Rattle.ll_variants.specs.Segments.{no_size, plus};
 use crate::segments::Size;
 
 /// How fast a rendition is.
-#[derive(Clone, Copy, Debug, PartialEq, Eq)]
+#[derive(Clone, Copy)]
 pub struct Rates {
     /// The peak segment bit rate, in bits a second (BANDWIDTH).
     pub bandwidth: u64,

@@ -6,7 +6,7 @@ use crate::stream::VariantFault;
 use std::alloc::Global;
 
 /// A number of bytes and a duration.
-#[derive(Clone, Copy, Debug, PartialEq, Eq)]
+#[derive(Clone, Copy)]
 pub struct Size {
     /// The number of bytes.
     pub bytes: u64,
@@ -15,7 +15,7 @@ pub struct Size {
 }
 
 /// What an item adds to the segments of its rendition.
-#[derive(Clone, Copy, Debug, PartialEq, Eq)]
+#[derive(Clone, Copy)]
 pub struct Piece {
     /// The index of the rendition in the settings of its channel.
     pub rendition: usize,

@@ -19,7 +19,7 @@ pub struct Stream {
 }
 
 /// Why there is no Multivariant Playlist.
-#[derive(Clone, Copy, Debug, PartialEq, Eq)]
+#[derive(Clone, Copy)]
 pub enum VariantFault {
     /// A number of bytes, of microseconds or of bits a second is above 2^64.
     TooLarge,

@@ -5,7 +5,7 @@ ghost use Rattle.ll_verdict.specs.Standing.{standing_of};
 use ll_rendition::Rendition;
 
 /// Where a rendition stands, after some items of its channel.
-#[derive(Clone, Copy, Debug, PartialEq, Eq)]
+#[derive(Clone, Copy)]
 pub struct Standing {
     /// The number of items that the channel has accepted.
     pub count: u64,

@@ -3,7 +3,7 @@
 use thiserror::Error;
 
 /// A rule that refuses an item after those before it. If several apply, the first in this order counts.
-#[derive(Clone, Copy, Debug, PartialEq, Eq, Error)]
+#[derive(Clone, Copy, Debug, Error)]
 pub enum WindowFault {
     /// An item after the end of its rendition (EXT-X-ENDLIST, section 4.4.3.4).
     #[error("Ended")]
@@ -33,7 +33,7 @@ pub enum WindowFault {
 }
 
 /// Why an item isn't added.
-#[derive(Clone, Copy, Debug, PartialEq, Eq, Error)]
+#[derive(Clone, Copy, Debug, Error)]
 pub enum PushError {
     /// The first rule that refuses the item.
     #[error("{0}")]

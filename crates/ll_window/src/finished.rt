@@ -18,7 +18,7 @@ use std::mem;
 use std::sync::Arc;
 
 /// A finished segment with the parts that playlists list of it, which copies share.
-#[derive(Debug, Drop)]
+#[derive(Drop)]
 pub(crate) struct FinishedSegment {
     pub(crate) segment: Segment,
     /// The parts, or `None` once playlists no longer list them.
@@ -69,7 +69,7 @@ impl FinishedSegment {
 }
 
 /// The finished segments of the window.
-#[derive(Debug, Drop)]
+#[derive(Drop)]
 pub(crate) struct Finished {
     pub(crate) rows: VecDeque<FinishedSegment>,
     /// The duration of all segments together, in microseconds.

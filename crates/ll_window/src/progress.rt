@@ -12,7 +12,7 @@ use crate::segment::Segment;
 use ll_item::Part;
 
 /// The counts and times of a rendition from which its next part goes on.
-#[derive(Clone, Copy, Debug)]
+#[derive(Clone, Copy)]
 pub(crate) struct Progress {
     /// The Media Sequence Number of the open segment, or of the next one if none is open.
     pub(crate) next_number: u64,

@@ -1,7 +1,7 @@
 //! Media Segments, without their parts.
 
 /// A Media Segment, finished or open (section 4.4.4).
-#[derive(Clone, Copy, Debug, PartialEq, Eq)]
+#[derive(Clone, Copy, PartialEq, Eq)]
 pub struct Segment {
     /// The Media Sequence Number (EXT-X-MEDIA-SEQUENCE, section 4.4.3.2).
     pub number: u64,

@@ -32,7 +32,6 @@ const LAST_MICRO: u64 = 253_402_300_799_999_999;
 
 /// What is kept of the segments and parts of one rendition: the finished segments that a full playlist shows, and the parts of
 /// the open one. A segment leaves once those after it last at least as long as the settings say (section 6.2.2).
-#[derive(Debug)]
 pub struct Window {
     alloc: Global,
     settings: Arc<Settings>,

@@ -3,7 +3,7 @@ use http::StatusCode;
 use thiserror::Error;
 
 /// Why no request stands at the front of some bytes: the first of these faults that its head has.
-#[derive(Clone, Copy, Debug, PartialEq, Eq, Error)]
+#[derive(Clone, Copy, Debug, Error)]
 pub enum HeadFault {
     /// The bytes begin no head (RFC 9112, sections 2 to 5).
     #[error("BadHead")]

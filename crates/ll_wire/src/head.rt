@@ -19,7 +19,7 @@ const MOST_BYTES: usize = 8192;
 const MOST_FIELDS: usize = 64;
 
 /// What the head of a GET request says. Its offsets count from the first of the bytes that were parsed.
-#[derive(Clone, Copy, Debug, PartialEq, Eq)]
+#[derive(Clone, Copy, Debug)]
 pub struct Request {
     /// The offset of its target's first byte.
     pub from: usize,
@@ -31,7 +31,7 @@ pub struct Request {
 }
 
 /// What stands at the front of a connection's bytes.
-#[derive(Clone, Copy, Debug, PartialEq, Eq)]
+#[derive(Clone, Copy, Debug)]
 pub enum Head {
     /// A whole head: its number of bytes, empty lines before it counted, and its request.
     Whole(usize, Request),
