@@ -9,6 +9,8 @@ mod replay;
 #[cfg(test)]
 mod rooms;
 #[cfg(test)]
+mod rows;
+#[cfg(test)]
 mod serve;
 #[cfg(test)]
 mod server;

@@ -6,7 +6,6 @@ mod held_tests;
 mod hubs;
 mod link_tests;
 mod players_tests;
-mod rows;
 mod sockets;
 mod step_tests;
 mod talks;

@@ -2,8 +2,8 @@
 
 use crate::hub::calls::{Stage, close, get, take};
 use crate::hub::hubs::{Noted, finished, hub_of_one, hub_of_three, seat};
-use crate::hub::rows::{Row, push};
 use crate::hub::scripts::{SCRIPTS, Script};
+use crate::rows::{Row, push};
 use ll_hub::{Blanks, Claim, Hub, HubFault, Ledgers, Pass};
 use std::alloc::Global;
 use std::marker::Brand;

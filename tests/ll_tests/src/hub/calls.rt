@@ -1,6 +1,6 @@
 //! A caller of a hub: steps, each of which is a call, and what they give.
 use crate::hub::hubs::{Noted, Shows, item, refused, told, want};
-use crate::hub::rows::{push, text};
+use crate::rows::{push, text};
 use ll_hub::{Claim, Hub, HubAsked, HubFault, Ledgers, Pass, Waited};
 use std::alloc::Global;
 use std::fmt::Write;

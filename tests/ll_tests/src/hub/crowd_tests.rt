@@ -1,7 +1,7 @@
 //! A test of a channel with as many held requests as it can hold.
 
 use crate::hub::hubs::{FIRST, STOPPED, Silent, finished, hub_of_one, reply, seat, want};
-use crate::hub::rows::same;
+use crate::rows::same;
 use ll_hub::{Blanks, Hub, HubAsked, Ledgers, Pass};
 use ll_verdict::Reply;
 use std::alloc::Global;

@@ -1,6 +1,6 @@
 //! The expected answers of a channel. Its items are kept here, apart from the hub and without a room: playlists are those that the definitions give
 //! for what is kept, and media is made of the bytes that came with the items.
-use crate::hub::rows::{push, text};
+use crate::rows::{push, text};
 use ll_item::{Item, Payload};
 use ll_page::{Page, Rendition, Shown, SkipKind};
 use ll_range::Ranges;

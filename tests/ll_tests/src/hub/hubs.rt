@@ -1,6 +1,6 @@
 //! Hubs that the tests share, calls of them, and their results as texts.
 
-use crate::hub::rows::text;
+use crate::rows::text;
 use ll_directive::{Want, read_target};
 use ll_hub::{Bell, Blanks, Claim, Clock, Hub, HubAsked, HubFault, Ledgers, Pass};
 use ll_item::{Item, Payload};

@@ -4,7 +4,7 @@ use crate::hub::expected::{Expected, PLAYLISTS, numbered};
 use crate::hub::hubs::{
     DOOR, STOPPED, Silent, finished, hub_of_three, refused, reply, seat, settings,
 };
-use crate::hub::rows::{Row, push, same, text};
+use crate::rows::{Row, push, same, text};
 use ll_check::check;
 use ll_hub::{Blanks, Hub, Ledgers, Pass};
 use ll_item::{Item, Payload};

@@ -3,7 +3,7 @@
 use crate::hub::hubs::{
     FIRST, Noted, PART, Waiting, add_one, comes_to, finished, hub_of_one, item, seat, want,
 };
-use crate::hub::rows::same;
+use crate::rows::same;
 use ll_hub::{Blanks, Claim, Hub, HubAsked, Ledgers, Pass, Waited};
 use std::alloc::Global;
 use std::marker::Brand;

@@ -1,7 +1,7 @@
 //! A test of the records that a hub's channels hand out.
 
 use crate::hub::hubs::{SEGMENT, STOPPED, add_one, asked, finished, hub_of_one, published, seat};
-use crate::hub::rows::same;
+use crate::rows::same;
 use ll_check::check;
 use ll_hub::{Blanks, Hub, Ledgers, Pass, Sink};
 use ll_record::Chunk;

@@ -1,5 +1,5 @@
 //! Scripts of a hub's calls: what becomes of held requests, for what the bell is rung, and what is refused.
-use crate::hub::rows::Row;
+use crate::rows::Row;
 
 /// A script: its name, steps, and the totals.
 #[derive(Clone, Copy)]

@@ -4,7 +4,7 @@ use crate::hub::hubs::{
     PART, SEGMENT, STOPPED, Silent, Waiting, add_one, asked, comes_to, finished, held, hub_of_one,
     hub_of_three, published, seat, told,
 };
-use crate::hub::rows::same;
+use crate::rows::same;
 use ll_hub::{Blanks, Hub, Ledgers, Pass};
 use std::alloc::Global;
 use std::marker::Brand;

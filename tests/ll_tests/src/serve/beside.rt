@@ -1,7 +1,8 @@
 //! Connections on a hub of their own, beside which another thread publishes what they await.
 
-use crate::serve::hubs::{Silent, Waiting, comes_to, finished, hub_of_one, published, seat};
-use crate::serve::rows::same_bytes;
+use crate::hub::hubs::{Silent, Waiting, comes_to, finished, hub_of_one, seat};
+use crate::rows::same_bytes;
+use crate::serve::hubs::published;
 use crate::serve::wires::{Dropped, Open, Plan, SOUND, Tape, Wire, no_spools, service};
 use ll_hub::{Blanks, Hub, Ledgers, Pass};
 use ll_serve::{LinkFault, Role, Service, serve_link};

@@ -1,9 +1,8 @@
 //! A test of records that become full while a connection is served.
 
-use crate::serve::hubs::{
-    SEGMENT, Silent, Stopped, add_one, finished_with, hub_of_one, published, seat,
-};
-use crate::serve::rows::{same, same_bytes};
+use crate::hub::hubs::{SEGMENT, Silent, add_one, hub_of_one, seat};
+use crate::rows::{same, same_bytes};
+use crate::serve::hubs::{Stopped, finished_with, published};
 use crate::serve::talks::{ANSWER, GET, LINE};
 use crate::serve::wires::{Open, SOUND, Tape, Wire, no_spools};
 use ll_check::check;

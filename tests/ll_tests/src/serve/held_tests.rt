@@ -1,8 +1,8 @@
 //! A test of connections whose request is held: they get its answer, they fail, or their player hangs up.
 
+use crate::hub::hubs::SEGMENT;
+use crate::rows::{push, same, same_bytes};
 use crate::serve::beside::{Beside, serve_beside};
-use crate::serve::hubs::SEGMENT;
-use crate::serve::rows::{push, same, same_bytes};
 use crate::serve::talks::{ANSWER, GET, GET_FIRST};
 use crate::serve::wires::{Plan, SOUND};
 use ll_hub::Blanks;

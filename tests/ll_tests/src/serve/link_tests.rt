@@ -1,7 +1,8 @@
 //! Tests of connections whose reads and writes fail, or take a few bytes at a time.
 
+use crate::hub::hubs::{SEGMENT, Silent, hub_of_one, seat};
 use crate::serve::beside::Served;
-use crate::serve::hubs::{SEGMENT, Silent, finished_with, hub_of_one, published, seat};
+use crate::serve::hubs::{finished_with, published};
 use crate::serve::talks::{ANSWER, GET, LINE};
 use crate::serve::wires::{Plan, SOUND, Tape, Wire, service};
 use ll_hub::{Blanks, Hub, Ledgers};

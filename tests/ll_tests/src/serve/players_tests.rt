@@ -1,7 +1,8 @@
 //! A test of players' connections that share few pollers, over sockets of one machine.
 
-use crate::serve::hubs::{SEGMENT, Silent, Stopped, finished, hub_of_one, published, seat};
-use crate::serve::rows::{same, same_bytes};
+use crate::hub::hubs::{SEGMENT, Silent, finished, hub_of_one, seat};
+use crate::rows::{same, same_bytes};
+use crate::serve::hubs::{Stopped, published};
 use crate::serve::sockets::{Few, ask, check_answer, connect, exchange, receive};
 use crate::serve::talks::{ANSWER, GET};
 use crate::serve::wires::{Dropped, Open, no_spools};

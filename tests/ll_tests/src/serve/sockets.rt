@@ -1,5 +1,5 @@
 //! Sockets of one machine.
-use crate::serve::rows::same_bytes;
+use crate::rows::same_bytes;
 use ll_device::{Listener, Place, Socket};
 use ll_serve::{Role, Source};
 use std::alloc::Global;

@@ -1,8 +1,9 @@
 //! Tests of players' connections that are served in steps, over links that would have to wait now and then.
 
+use crate::hub::hubs::{Silent, hub_of_one, seat};
+use crate::rows::same;
 use crate::serve::beside::{Beside, Served, publish_lines, serve_beside};
-use crate::serve::hubs::{Silent, Stopped, finished_with, hub_of_one, published, seat};
-use crate::serve::rows::same;
+use crate::serve::hubs::{Stopped, finished_with, published};
 use crate::serve::talks::{GET, GETS, GOT, LINES, TAKEN};
 use crate::serve::wires::{Dropped, Halts, NoFiles, Plan, SOUND, Tape, Wire, no_spools};
 use ll_hub::{Blanks, Hub, Ledgers, Pass};

@@ -1,6 +1,7 @@
 //! Connections in memory, of whose calls any can be short, have to wait or fail.
 
-use crate::serve::hubs::{Silent, Stopped, add_one};
+use crate::hub::hubs::{Silent, add_one};
+use crate::serve::hubs::Stopped;
 use ll_device::{Failed, Writer};
 use ll_hub::{Hub, Ledgers, Sink};
 use ll_layout::{Place, Side};

@@ -1,9 +1,8 @@
 //! Tests of workers and the connections that they serve.
 
-use crate::serve::hubs::{
-    SEGMENT, Silent, Stopped, add_one, comes_to, finished, hub_of_one, published, seat,
-};
-use crate::serve::rows::{same, same_bytes};
+use crate::hub::hubs::{SEGMENT, Silent, add_one, comes_to, finished, hub_of_one, seat};
+use crate::rows::{same, same_bytes};
+use crate::serve::hubs::{Stopped, published};
 use crate::serve::talks::{ANSWER, GET};
 use crate::serve::wires::{Dropped, Open, SOUND, Tape, Wire, no_notes, no_spools};
 use ll_hub::{Blanks, Hub, Ledgers, Pass};

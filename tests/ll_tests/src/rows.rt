@@ -1,6 +1,7 @@
 //! Rows of tables, and comparisons of results with what is expected.
 use std::alloc::Global;
 use std::process::Abort;
+use std::str;
 
 /// A row of a table: an input, an arrow, and the expected result.
 #[derive(Clone, Copy)]
@@ -37,6 +38,12 @@ pub(crate) fn same(rt: &impl Abort, at: &str, told: &str, expected: &str) {
     if told != expected {
         panic!(rt; "at {at}: {told} in place of {expected}");
     }
+}
+
+/// Compares what was sent with what is expected.
+pub(crate) fn same_bytes(rt: &impl Abort, at: &str, sent: &[u8], expected: &str) {
+    let told = str::from_utf8(sent).unwrap_or("bytes that are no text");
+    same(rt, at, told, expected);
 }
 
 /// Returns a copy of `of`.
