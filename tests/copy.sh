@@ -92,7 +92,7 @@ prove_beside() {
         done+=$names
         if [ -n "$names" ]; then
             # (more at once would take too much memory)
-            while [ "$(jobs -rp | wc -l)" -ge 2 ]; do
+            while [ "$(jobs -rp | wc -l)" -ge 3 ]; do
                 wait -n
             done
             prove_rest "$1/beside$at" "$2" $names &
@@ -155,8 +155,8 @@ prove_rest() {
             cp -r "${2%crates.txt}crates/$crate/must-fail" "$1/crates/$crate"
         fi
     done
-    # Two of these runs can go on at once.
-    cd "$1" && RT_JOBS=${lanes:+$(((3 * lanes + 3) / 4))} rt ci
+    # Three of these runs can go on at once: the last crate of one, which may be long, leaves lanes to the others.
+    cd "$1" && RT_JOBS=${lanes:+$(((lanes + 1) / 2))} rt ci
 }
 
 # without NAME: reads lines of crates.txt on standard input, and prints the names of the crates that don't stand on NAME.
