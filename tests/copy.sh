@@ -148,7 +148,7 @@ below() {
 # prove_rest FOLDER FILE NAME..: proves these crates of FILE, in a copy at FOLDER, and tries their must-fail edits, which are found beside FILE.
 prove_rest() {
     local crate
-    renice -n 19 "$BASHPID" >/dev/null
+    renice -n 5 "$BASHPID" >/dev/null
     copy_crates "$1" "${@:3}"
     for crate in "${@:3}"; do
         if [ -d "${2%crates.txt}crates/$crate/must-fail" ]; then

@@ -1,5 +1,4 @@
 -- The definitions of this crate: how devices and links are used, and which bytes come and go.
 pub mod Counts
 pub mod Inward
-pub mod Tries
 pub mod Written

@@ -1,25 +1,12 @@
 //! What bytes come from and go to: readers and writers, connections, and where these come from.
 #![tactic(auto)]
 
-mod address;
-mod again;
-mod connector;
-mod counted;
 mod counted_link;
 mod counts;
 mod device;
 mod link;
-mod listener;
-mod socket;
-mod stream;
-mod unix;
 
-pub use address::Address;
-pub use connector::Connector;
-pub use counted::{CountedReader, CountedWriter};
 pub use counted_link::CountedLink;
 pub use counts::TwoCounts;
 pub use device::{Failed, Reader, Writer, write_all, write_both};
 pub use link::{Link, Role, Source, TryLink};
-pub use listener::{Listener, Place};
-pub use socket::Socket;

@@ -1,6 +1,7 @@
 //! Where connections come from.
 use libc::net::{AF_INET, AF_INET6, AF_UNIX};
-use ll_device::{Socket, TryLink};
+use ll_device::TryLink;
+use ll_socket::Socket;
 use std::fmt;
 use std::net::{Ipv4Addr, Ipv6Addr, SocketAddr, SocketAddrV4, SocketAddrV6};
 

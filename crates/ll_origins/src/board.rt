@@ -1,9 +1,9 @@
 //! Shows on standard error how publishing at several origins goes on.
 use crate::meter::Meter;
 use ll_announce::{Said, Standing};
-use ll_device::Address;
 use ll_pair::Pair;
 use ll_push::Watch;
+use ll_socket::Address;
 use std::alloc::{AllocError, Global};
 use std::fmt::Display;
 use std::sync::{Mutex, Wait};

@@ -1,7 +1,8 @@
 //! The connections to one of several origins.
 use crate::origins::Job;
-use ll_device::{Address, Connector, Socket, Source};
+use ll_device::Source;
 use ll_pair::Pair;
+use ll_socket::{Address, Connector, Socket};
 use std::net::{Net, TcpListener, TcpStream};
 use std::sync::Wait;
 use std::thread;

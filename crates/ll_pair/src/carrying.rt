@@ -65,11 +65,14 @@ pub fn carry<S: Source, M: Coming, W: Watch>(
         let Some(mut link) = origin.next() else {
             return Err(PushFault::Connect);
         };
-        match progress.carry_on(alloc, names, coming, &mut link, watch)? {
-            Step::Whole => return Ok(Ending::Whole),
-            Step::Refused(line) => return Ok(Ending::Refused(line)),
-            Step::Left => return Ok(Ending::Left),
-            Step::Gone { accepted } => idle = after_one_more(accepted, idle),
+        let step = progress.carry_on(alloc, names, coming, &mut link, watch);
+        drop(link);
+        match step {
+            Ok(Step::Whole) => return Ok(Ending::Whole),
+            Ok(Step::Refused(line)) => return Ok(Ending::Refused(line)),
+            Ok(Step::Left) => return Ok(Ending::Left),
+            Ok(Step::Gone { accepted }) => idle = after_one_more(accepted, idle),
+            Err(fault) => return Err(fault),
         }
         if idle > tries {
             return Err(PushFault::Connect);

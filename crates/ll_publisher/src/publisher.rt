@@ -1,11 +1,12 @@
 //! A publisher's connection: its lines are read, and what they announce is published and answered.
 ghost use Rattle.std.specs.Bool.{Decides};
-ghost use Rattle.std.specs.Prelude.{◌≡◌, ◌≢◌, ℕ, Err, IfErr, IfOk, IsErrOf, List, MatchResult, None, Ok, OnErr, OnOk, Option, Some, length, nat_le, slice_get, true};
+ghost use Rattle.std.specs.Prelude.{[], ◌≡◌, ◌≢◌, ℕ, Err, IfErr, IfOk, IsErrOf, List, MatchResult, None, Ok, OnErr, OnOk, Option, Some, length, nat_le, slice_get, true};
 ghost use Rattle.std.specs.Io.KnownBytes.{Appends};
 ghost use Rattle.ll_device.specs.Written.{AppendsPrefix};
 ghost use Rattle.ll_item.specs.Items.{item_in};
 ghost use Rattle.ll_item.specs.Media.{media_limit};
 ghost use Rattle.ll_publish.specs.Line as says;
+ghost use Rattle.ll_publish.specs.Lines.{fresh};
 ghost use Rattle.ll_publish.specs.Meaning.{meant};
 ghost use Rattle.ll_publish.specs.Refusals.{item_refusal, reply_line};
 ghost use Rattle.ll_settings.specs.Channels.{channel_of_name};
@@ -39,8 +40,6 @@ use std::sync::Wait;
 const PIECE: usize = 65_536;
 
 /// Publishes what a publisher's lines announce, answers each line, and returns the number of answers. Fails after `reads` reads.
-// Not inlined, so that a thread that serves a player has no room for this buffer on its stack.
-#[inline(never)]
 pub fn serve<L: Ledgers, P: Link, C, G: Gate, K: Sink, D: Disk, B: Bell, R: Wait>(
     service: &Service<'_, L, C, G, K, D, B, R>,
     link: &mut P,
@@ -55,6 +54,28 @@ pub fn serve<L: Ledgers, P: Link, C, G: Gate, K: Sink, D: Disk, B: Bell, R: Wait
 {
     let mut feed = Feed::new(service.alloc);
     let mut opened = Vec::new(service.alloc);
+    read_all(service, link, pass, &mut opened, &mut feed, reads)
+}
+
+/// Does what [`serve`] does, with a `feed` that took nothing and with `opened`, which is empty.
+// Not inlined, so that a thread that serves a player has no room for this buffer on its stack.
+#[inline(never)]
+fn read_all<L: Ledgers, P: Link, C, G: Gate, K: Sink, D: Disk, B: Bell, R: Wait>(
+    service: &Service<'_, L, C, G, K, D, B, R>,
+    link: &mut P,
+    pass: &mut Pass<L>,
+    opened: &mut Vec<usize>,
+    feed: &mut Feed,
+    reads: u64,
+) -> Result<u64, LinkFault>
+    requires unfed { feed.old ≡ fresh }
+    requires closed { opened.old.items ≡ [] }
+    ensures faults { IsTrue result (P.failures link.old) (P.failures link.new) }
+    ensures few { IsReadWithin (P.inward link.old) (P.inward link.new) reads }
+    ensures endless { IsErrOf result LinkFault.Endless → IsReadThrough (P.inward link.old) (P.inward link.new) reads }
+    ensures served { OnOk result (IsServed (origin service.now.hub.now service.now.secrets.now) pass.old pass.new (P.inward link.old) (P.inward link.new) (P.written link.old) (P.written link.new)) }
+    ensures cut_off { OnErr result (IsCutOff (origin service.now.hub.now service.now.secrets.now) pass.old pass.new (P.inward link.old) (P.inward link.new) (P.written link.old) (P.written link.new)) }
+{
     let mut answers = 0;
     let mut piece = [0; PIECE];
     for _ in 0..reads {
@@ -65,7 +86,7 @@ pub fn serve<L: Ledgers, P: Link, C, G: Gate, K: Sink, D: Disk, B: Bell, R: Wait
             return Ok(answers);
         }
         feed.take(&piece[..count])?;
-        answer(service, link, pass, &mut opened, &mut feed, &mut answers)?;
+        answer(service, link, pass, opened, feed, &mut answers)?;
     }
     Err(LinkFault::Endless)
 }
@@ -319,6 +340,7 @@ fn publish_again<L: Ledgers, C, G: Gate, K: Sink, D, B: Bell, R: Wait>(
     if !is_full(&first) {
         return Ok((first, None));
     }
+    drop(first);
     let handed = service.hand_out(pass, channel)?;
     let second = publish_once(service, pass, channel, settings, text, payload)?;
     Ok((second, Some(handed)))

@@ -2,9 +2,10 @@
 use crate::status::{open_status, say_status};
 use ll_command::Fault;
 use ll_config::Door;
-use ll_device::{Failed, Listener};
+use ll_device::Failed;
 use ll_door::Digest;
 use ll_serve::Role;
+use ll_socket::Listener;
 use ll_status::StatusPort;
 use std::alloc::Global;
 use std::net::{Net, SocketAddr, TcpListener, TcpStream};

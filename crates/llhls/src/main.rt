@@ -31,9 +31,9 @@ use ll_command::{
     Command, Fault, Plan, fault_of, run_script, secret_line, write_applied, write_checked,
     write_explained, write_summary, write_upgraded, write_version,
 };
-use ll_device::{Address, CountedReader, CountedWriter};
 use ll_origins::Job;
 use ll_push::Ending as Published;
+use ll_socket::{Address, CountedReader, CountedWriter};
 use std::alloc::Global;
 use std::fs::File;
 use std::io::IsTerminal;

@@ -69,6 +69,18 @@ impl<L: Ledgers, K: Sink + Drop, R: Wait + Clock> Accepts for Restored<'_, L, K,
 }
 
 impl<'a, L: Ledgers, K: Sink + Drop, R: Eprint + Wait + Clock> Restored<'a, L, K, R> {
+    /// Publishes the items of the spools whose files are `files`, one after another.
+    fn restore_each(
+        &mut self,
+        files: Vec<SpoolFiles<'a, R>>,
+    ) -> Result<Vec<Spool<SpoolFiles<'a, R>>>, Stop> {
+        let mut restored = Vec::new(self.alloc);
+        for files in files {
+            push(&mut restored, self.restore(files)?)?;
+        }
+        Ok(restored)
+    }
+
     /// Publishes the items of the spool whose files are `files`, and says on standard error how many they are, or which line can't stand.
     fn restore(&mut self, files: SpoolFiles<'a, R>) -> Result<Spool<SpoolFiles<'a, R>>, Stop> {
         let (rt, hub) = (self.rt, self.hub);
@@ -119,11 +131,16 @@ pub(crate) fn restore_all<'a, L: Ledgers, K: Sink + Drop, R: Eprint + Wait + Clo
         numbers,
         place: 0,
     };
-    let mut restored = Vec::new(alloc);
-    for files in files {
-        let spool = channel.restore(files)?;
-        push(&mut restored, spool)?;
-    }
+    let restored = channel.restore_each(files)?;
+    let spools = begin_all(alloc, restored)?;
+    Ok((spools, channel.pass))
+}
+
+/// Makes the spools `restored` ready for further items.
+fn begin_all<'a, R>(
+    alloc: Global,
+    restored: Vec<Spool<SpoolFiles<'a, R>>>,
+) -> Result<Spools<'a, R>, Stop> {
     let mut spools = Vec::new(alloc);
     for mut spool in restored {
         if spool.begin().is_err() {
@@ -131,7 +148,7 @@ pub(crate) fn restore_all<'a, L: Ledgers, K: Sink + Drop, R: Eprint + Wait + Clo
         }
         push(&mut spools, Mutex::new(spool))?;
     }
-    Ok((spools, channel.pass))
+    Ok(spools)
 }
 
 /// Appends `last` to `list`.

@@ -1,10 +1,9 @@
 //! A listening port or socket file, where connections come in.
-use crate::device::Failed;
-use crate::link::{Role, Source};
 use crate::socket::Socket;
 use crate::unix;
 use libc::net::{SO_KEEPALIVE, SOL_SOCKET};
 use ll_attr::Text;
+use ll_device::{Failed, Role, Source};
 use std::alloc::Global;
 use std::net::{Net, SocketAddr, TcpListener, TcpStream};
 use std::os::fd::{AsRawFd, OwnedFd};

@@ -3,11 +3,11 @@
 ghost use Rattle.std.specs.Prelude.{◌≡◌, ◌≤◌, ◌++◌, [], IfOk, IfSome, MatchResult, Ok, length};
 ghost use Rattle.std.specs.Io.{WritesAtMost};
 ghost use Rattle.std.specs.Io.KnownBytes.{Keeps, ReadConsumes, WriteAppends};
-ghost use Rattle.ll_device.specs.Tries.{TryAppends, TryConsumes};
+ghost use Rattle.ll_socket.specs.Tries.{TryAppends, TryConsumes};
 
 use crate::again;
-use crate::device::Failed;
 use libc::net::{POLLIN, POLLOUT};
+use ll_device::Failed;
 use std::io;
 use std::io::{ErrorKind, Read, Write};
 

@@ -1,13 +1,12 @@
 //! Connections by TCP or a socket file as links.
 ghost use Rattle.std.specs.Prelude.{◌≡◌, is_err};
 
-use crate::device::{Failed, Writer};
-use crate::link::{Link, TryLink};
 use crate::stream;
 use crate::stream::Stream;
 use libc::EINTR;
 use libc::net::POLLRDHUP;
 use libc::types::pollfd;
+use ll_device::{Failed, Link, TryLink, Writer};
 use std::io;
 use std::io::IoSlice;
 use std::net::TcpStream;

@@ -3,10 +3,10 @@ use Rattle.std.proofs.Common.{[], arith, refl, length, ◌<◌, ◌++◌, ◌∙
 use Rattle.ll_device.proofs.InwardLemmas.{looked_at-none}
 use Rattle.ll_service.proofs.ReadLemmas.{IsReadWithin-then, read-then}
 use Rattle.ll_publisher.proofs.ServingLemmas.{cut-answering, cut-reading, drained-at, drained-first, on-err, served, serving-fed}
-use Rattle.ll_publisher.proofs.publisher.serve.Goals as goal
+use Rattle.ll_publisher.proofs.publisher.read_all.Goals as goal
 
 pub loop-init : goal.loop-init
-loop-init g c = record { steady = refl; taken = []; read = looked_at-none _; drained = drained-first _ _ _ _ _ c.new-feed.ensures c.new-opened.ensures.items }
+loop-init g c = record { steady = refl; taken = []; read = looked_at-none _; drained = drained-first _ _ _ _ _ c.requires.unfed c.requires.closed }
 
 pub loop-preserved : goal.loop-preserved
 loop-preserved g c =

@@ -4,7 +4,7 @@ use Rattle.ll_device.specs.Inward.{looked_at}
 use Rattle.ll_publisher.specs.Doors.{origin}
 use Rattle.ll_publisher.specs.Publishing.{caller, newcomer}
 use Rattle.ll_publisher.specs.Serving.{IsDrained}
-use Rattle.ll_publisher.proofs.publisher.serve.Given as goal
+use Rattle.ll_publisher.proofs.publisher.read_all.Given as goal
 
 abbrev pub invariant-loop : goal.invariant-loop
 invariant-loop g l = record {

@@ -3,10 +3,9 @@ ghost use Rattle.std.specs.Prelude.{◌≡◌, OnOk};
 ghost use Rattle.std.specs.Io.KnownBytes.{Appends};
 
 use crate::address::Address;
-use crate::device::{Failed, write_all};
-use crate::link::{Link, Source};
 use crate::socket::Socket;
 use crate::unix;
+use ll_device::{Failed, Link, Source, write_all};
 use std::io::{Error, ErrorKind};
 use std::net::{Net, SocketAddr, TcpListener, TcpStream, ToSocketAddrs};
 use std::time::{Clock, Duration, Instant};

@@ -2,8 +2,7 @@
 ghost use Rattle.std.specs.Prelude.{◌≡◌, ◌+◌};
 
 use crate::again;
-use crate::counts::TwoCounts;
-use crate::device::{Failed, Reader, Writer};
+use ll_device::{Failed, Reader, TwoCounts, Writer};
 use std::io::{Read, Write};
 use std::sync::ledger::{Blank, Ledger};
 
