@@ -1,10 +1,8 @@
-//! Sockets, their addresses and where they come from, and std's readers and writers as devices.
+//! Sockets, their addresses, and where they come from.
 #![tactic(auto)]
 
 mod address;
-mod again;
 mod connector;
-mod counted;
 mod listener;
 mod socket;
 mod stream;
@@ -12,6 +10,5 @@ mod unix;
 
 pub use address::Address;
 pub use connector::Connector;
-pub use counted::{CountedReader, CountedWriter};
 pub use listener::{Listener, Place};
 pub use socket::Socket;

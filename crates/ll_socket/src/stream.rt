@@ -1,15 +1,15 @@
 //! Reads and writes of a nonblocking stream. Their contracts speak of its bytes in std's terms, so they hold for every stream whose
 //! bytes std knows. A call that a signal interrupts is made again.
-ghost use Rattle.std.specs.Prelude.{◌≡◌, ◌≤◌, ◌++◌, [], IfOk, IfSome, MatchResult, Ok, length};
+ghost use Rattle.std.specs.Prelude.{◌≡◌, ◌≢◌, ◌≤◌, ◌++◌, [], IfErr, IfOk, IfSome, MatchResult, Ok, length};
 ghost use Rattle.std.specs.Io.{WritesAtMost};
 ghost use Rattle.std.specs.Io.KnownBytes.{Keeps, ReadConsumes, WriteAppends};
+ghost use Rattle.std.specs.IoError.{error_kind};
 ghost use Rattle.ll_socket.specs.Tries.{TryAppends, TryConsumes};
 
-use crate::again;
 use libc::net::{POLLIN, POLLOUT};
-use ll_device::Failed;
+use ll_device::{Failed, again};
 use std::io;
-use std::io::{ErrorKind, Read, Write};
+use std::io::{Error, ErrorKind, Read, Write};
 
 /// A nonblocking stream.
 pub(crate) trait Stream: Read + Write {
@@ -54,10 +54,29 @@ pub(crate) fn send_two<S: Stream>(
     ensures some { IfOk result (λ done. IfSome done (λ n. n ≡ 0 → first.now ++ second.now ≡ [])) }
     ensures bytes { MatchResult result (λ done. TryAppends (S.contents stream.old) (S.contents stream.new) done (first.now ++ second.now)) (λ _. Keeps (S.contents stream.old) (S.contents stream.new)) }
 {
-    match again::write_both(stream, first, second) {
+    match write_both(stream, first, second) {
         Ok(0) if !(first.is_empty() && second.is_empty()) => Err(Failed),
         call => done(call),
     }
+}
+
+/// Writes `first` and then `second` by one system call, and again as long as a signal interrupts that.
+fn write_both<S: Stream>(
+    stream: &mut S,
+    first: &[u8],
+    second: &[u8],
+) -> io::Result<usize>
+    ensures again { IfErr result (λ e. error_kind e ≢ ErrorKind.Interrupted) }
+    ensures bound { WritesAtMost result (first.now ++ second.now) }
+    ensures bytes { WriteAppends (S.contents stream.old) (S.contents stream.new) result (first.now ++ second.now) }
+{
+    for _ in 0..u64::MAX {
+        match stream.write_both(first, second) {
+            Err(error) if error.kind() == ErrorKind::Interrupted => {}
+            done => return done,
+        }
+    }
+    Err(Error::from(ErrorKind::TimedOut))
 }
 
 /// Returns the count of a system call, or `None` if it would have to wait.

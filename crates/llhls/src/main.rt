@@ -9,31 +9,24 @@ ghost use Rattle.std.specs.Prelude.{◌≡◌, IfErr};
 ghost use Rattle.ll_replay.specs.declared.outcome.RunFault.{RunFault};
 
 mod calendar;
-mod clock;
-mod doors;
-mod log_lines;
 mod multivariant;
 mod push;
-mod restoring;
-mod serve;
-mod status;
-mod stop;
-mod watch;
 mod words;
 
 use crate::multivariant::multivariant;
 use crate::push::{publish, publish_job};
-use crate::serve::serve;
-use crate::stop::Stop;
 use crate::words::words;
 use ll_attr::Text;
 use ll_command::{
     Command, Fault, Plan, fault_of, run_script, secret_line, write_applied, write_checked,
     write_explained, write_summary, write_upgraded, write_version,
 };
+use ll_device::{CountedReader, CountedWriter};
+use ll_opening::Stop;
 use ll_origins::Job;
 use ll_push::Ending as Published;
-use ll_socket::{Address, CountedReader, CountedWriter};
+use ll_server::serve;
+use ll_socket::Address;
 use std::alloc::Global;
 use std::fs::File;
 use std::io::IsTerminal;

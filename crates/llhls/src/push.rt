@@ -3,9 +3,10 @@ ghost use Rattle.std.specs.Prelude.{◌≡◌};
 
 use crate::calendar::SystemCalendar;
 use ll_command::Fault;
+use ll_device::CountedReader;
 use ll_origins::{Job, Meter, publish_at_all};
 use ll_push::{Ending, Target, push};
-use ll_socket::{Address, Connector, CountedReader};
+use ll_socket::{Address, Connector};
 use std::alloc::Global;
 use std::io::{self, IsTerminal};
 use std::net::{Net, TcpListener, TcpStream};

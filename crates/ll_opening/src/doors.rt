@@ -2,9 +2,8 @@
 use crate::status::{open_status, say_status};
 use ll_command::Fault;
 use ll_config::Door;
-use ll_device::Failed;
+use ll_device::{Failed, Role};
 use ll_door::Digest;
-use ll_serve::Role;
 use ll_socket::Listener;
 use ll_status::StatusPort;
 use std::alloc::Global;
@@ -13,32 +12,32 @@ use std::rt::Files;
 use std::time::Duration;
 
 /// How long a player may be idle before its connection is closed, in seconds.
-pub(crate) const IDLE: u64 = 30;
+pub const IDLE: u64 = 30;
 
 /// Where players, publishers and those who watch the server connect, and who may publish.
 #[derive(Drop)]
-pub(crate) struct Doors {
-    pub(crate) players: SocketAddr,
-    pub(crate) publishers: Door,
+pub struct Doors {
+    pub players: SocketAddr,
+    pub publishers: Door,
     /// How long a publisher may send nothing before its connection is closed, in seconds; without it forever.
-    pub(crate) idle: Option<u64>,
+    pub idle: Option<u64>,
     /// The status port.
-    pub(crate) status: Option<SocketAddr>,
+    pub status: Option<SocketAddr>,
     /// The digest of each channel's secret, if it has one.
-    pub(crate) secrets: Vec<Option<Digest>>,
+    pub secrets: Vec<Option<Digest>>,
 }
 
 /// The ports of players, of publishers and of those who watch the server.
 #[derive(Drop)]
-pub(crate) struct Listeners<'a, R> {
-    pub(crate) players: Listener<'a, R>,
-    pub(crate) publishers: Listener<'a, R>,
-    pub(crate) status: Option<StatusPort<'a, R>>,
+pub struct Listeners<'a, R> {
+    pub players: Listener<'a, R>,
+    pub publishers: Listener<'a, R>,
+    pub status: Option<StatusPort<'a, R>>,
 }
 
 impl Doors {
     /// Listens at all of these, and says on standard error where.
-    pub(crate) fn open<'a, R: Net<Listener = TcpListener, Stream = TcpStream> + Files + Eprint>(
+    pub fn open<'a, R: Net<Listener = TcpListener, Stream = TcpStream> + Files + Eprint>(
         &self,
         rt: &'a R,
         alloc: Global,

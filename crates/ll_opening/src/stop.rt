@@ -2,7 +2,7 @@
 use ll_command::Fault;
 
 /// Why a server doesn't start, or ends.
-pub(crate) enum Stop {
+pub enum Stop {
     /// A fault that any command can have.
     Fault(Fault),
     /// A spool can't stand, or its files can't be used. Why was said on standard error; the program ends with this status.

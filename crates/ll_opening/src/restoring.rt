@@ -107,11 +107,11 @@ impl<'a, L: Ledgers, K: Sink + Drop, R: Eprint + Wait + Clock> Restored<'a, L, K
 }
 
 /// The channels' spools, in the order of the channels.
-pub(crate) type Spools<'a, R> = Vec<Mutex<Spool<SpoolFiles<'a, R>>>>;
+pub type Spools<'a, R> = Vec<Mutex<Spool<SpoolFiles<'a, R>>>>;
 
 /// Publishes the items of the spools whose files are `files`, one for each channel in order, or none, and makes these ready for further
 /// items. Nothing is written unless all can stand. Returns the spools, and the pass with which their items were published.
-pub(crate) fn restore_all<'a, L: Ledgers, K: Sink + Drop, R: Eprint + Wait + Clock>(
+pub fn restore_all<'a, L: Ledgers, K: Sink + Drop, R: Eprint + Wait + Clock>(
     rt: &'a R,
     alloc: Global,
     hub: &'a Hub<L>,
@@ -137,7 +137,7 @@ pub(crate) fn restore_all<'a, L: Ledgers, K: Sink + Drop, R: Eprint + Wait + Clo
 }
 
 /// Makes the spools `restored` ready for further items.
-fn begin_all<'a, R>(
+fn begin_all<'a, R: Eprint>(
     alloc: Global,
     restored: Vec<Spool<SpoolFiles<'a, R>>>,
 ) -> Result<Spools<'a, R>, Stop> {
@@ -152,7 +152,7 @@ fn begin_all<'a, R>(
 }
 
 /// Appends `last` to `list`.
-pub(crate) fn push<T: Drop>(list: &mut Vec<T>, last: T) -> Result<(), Stop> {
+pub fn push<T: Drop>(list: &mut Vec<T>, last: T) -> Result<(), Stop> {
     match list.push(last) {
         Ok(()) => Ok(()),
         Err(_) => Err(Stop::Fault(Fault::Memory)),

@@ -2,7 +2,8 @@
 ghost use Rattle.std.specs.Prelude.{◌≡◌, ◌+◌};
 
 use crate::again;
-use ll_device::{Failed, Reader, TwoCounts, Writer};
+use crate::counts::TwoCounts;
+use crate::device::{Failed, Reader, Writer};
 use std::io::{Read, Write};
 use std::sync::ledger::{Blank, Ledger};
 

@@ -34,7 +34,7 @@ pub(crate) fn say_status<R: Net<Listener = TcpListener, Stream = TcpStream> + Ep
 }
 
 /// Serves those who connect at the status port, if there is one, from `numbers`.
-pub(crate) fn serve_status<R: Clock + Eprint + Wait>(
+pub fn serve_status<R: Clock + Eprint + Wait>(
     status: &mut Option<StatusPort<'_, R>>,
     numbers: &Numbers<'_, R>,
 ) {

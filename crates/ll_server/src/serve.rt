@@ -2,10 +2,6 @@
 ghost use denote.Param.Send.{IsSend};
 ghost use Rattle.std.specs.Prelude.{◌≡◌, ◌≤◌, length};
 
-use crate::doors::{Doors, IDLE, Listeners};
-use crate::restoring::{Spools, push, restore_all};
-use crate::status::serve_status;
-use crate::stop::Stop;
 use crate::watch::Watch;
 use ll_command::Fault;
 use ll_config::{Config, ConfigFault, Workers};
@@ -13,6 +9,7 @@ use ll_counts::Numbers;
 use ll_files::{Log, Records, SpoolFiles, Unusable};
 use ll_hub::{Bell, Blanks, Clock, Hub, HubFault, Ledgers, Pass, Sink};
 use ll_notes::Notes;
+use ll_opening::{Doors, IDLE, Listeners, Spools, Stop, push, restore_all, serve_status};
 use ll_serve::{Bells, Gate, Role, Service, serve_links, serve_players};
 use ll_settings::Settings;
 use ll_socket::Listener;
@@ -44,7 +41,7 @@ pub(crate) struct Server<'a, R> {
 
 /// Serves players and publishers of the channels of the settings file `settings`, until it is stopped. If their items are kept, first
 /// publishes those that were.
-pub(crate) fn serve<
+pub fn serve<
     R: Net<Listener = TcpListener, Stream = TcpStream>
         + Files<File = File>
         + Eprint
