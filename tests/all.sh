@@ -60,17 +60,21 @@ minutes() {
 start tests/edits_apply.py
 start tests/listed.py
 start tests/build_lines.sh
-# With RT_JOBS, a run doesn't plan with several times the memory that a check takes, which would have fewer crates side by side.
-lanes=${RT_JOBS:-$(nproc)}
 begin nice -n 5 tests/try_tests.sh
 begin nice -n 5 tests/try_rows.sh 40
-# A line for each crate shows that the proofs go on.
-prove_chain "$room" crates.txt </dev/null > >(tell "$(grep -c '^[a-z]' crates.txt)") 2>&1
 echo "== rt ci"
-{
-    env RT_JOBS="$lanes" nice -n 5 rt ci 2>&1 | tee "$room/proofs"
+# proves: runs `rt ci`, whose output it leaves in $room/proofs and its status in $room/proofs.status. With RT_JOBS, it doesn't plan with several times the
+# memory that a check takes, which would have fewer crates side by side. One of its lanes mostly waits for the run ahead.
+proves() {
+    env RT_JOBS=$((${RT_JOBS:-$(nproc)} + 1)) nice -n 5 rt ci 2>&1 | tee "$room/proofs"
     echo "${PIPESTATUS[0]}" >"$room/proofs.status"
-} &
+}
+# A line for each crate shows that the proofs go on.
+{
+    prove_ahead "$room" crates.txt 2>&1 | news &
+    proves | news
+    wait
+} </dev/null > >(tell "$(grep -c '^[a-z]' crates.txt)" "$room/ahead" "$root") &
 proofs=$!
 # The program is tested as soon as it is proved, since the last proofs leave processors idle.
 until grep -Eqs '^rt: llhls (proved$|is kept: )' "$room/proofs" || [ -e "$room/proofs.status" ]; do
@@ -93,6 +97,7 @@ if [ -e "$by_rattle" ]; then
 fi
 wait "$proofs"
 minutes 'all is proved'
+grep -Ev '^fn .*: proved$' "$room/proofs"
 add "$(<"$room/proofs.status")" "$room/proofs" rt ci
 # `rt ci` passes over an edit that doesn't compile, which says nothing of a contract.
 if grep -q '\.edit: BAD EDIT' "$room/proofs"; then

@@ -14,12 +14,14 @@ mkdir -p "$made"
 
 # Proves all crates, and prints what `rt ci` prints.
 prove_all() {
-    lanes= prove_chain "$room" "$room/all/crates.txt"
-    cd "$room/all"
-    nice -n 5 rt ci
+    local status=0
+    prove_ahead "$room" "$room/all/crates.txt" | news &
+    (cd "$room/all" && nice -n 5 rt ci) || status=1
+    wait
+    return "$status"
 }
 
-if ! prove_all </dev/null 2>&1 | tee "$made/build.log" | tell "$(wc -l <"$room/all/crates.txt")" >&2; then
+if ! prove_all </dev/null 2>&1 | tee "$made/build.log" | news | tell "$(wc -l <"$room/all/crates.txt")" "$room/ahead" "$room/all" >&2; then
     echo "$made/build.log says why" >&2
     exit 1
 fi

@@ -1,6 +1,6 @@
 //! Where those connect whom a server serves, and who of them may publish.
 use crate::status::{open_status, say_status};
-use ll_command::Fault;
+use crate::stop::Stop;
 use ll_config::Door;
 use ll_device::{Failed, Role};
 use ll_door::Digest;
@@ -41,10 +41,10 @@ impl Doors {
         &self,
         rt: &'a R,
         alloc: Global,
-    ) -> Result<Listeners<'a, R>, Fault> {
+    ) -> Result<Listeners<'a, R>, Stop> {
         match self.listen(rt, alloc) {
             Ok(listeners) => Ok(listeners),
-            Err(Failed) => Err(Fault::Listen),
+            Err(Failed) => Err(Stop::Listen),
         }
     }
 

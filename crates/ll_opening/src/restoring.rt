@@ -2,7 +2,6 @@
 ghost use Rattle.std.specs.Prelude.{None};
 
 use crate::stop::Stop;
-use ll_command::Fault;
 use ll_counts::Numbers;
 use ll_files::SpoolFiles;
 use ll_hub::{Bell, Hub, HubFault, Ledgers, Pass, RoomFault, Sink};
@@ -101,7 +100,7 @@ impl<'a, L: Ledgers, K: Sink + Drop, R: Eprint + Wait + Clock> Restored<'a, L, K
                 let _ = eprintln!(rt; "llhls: spool: {channel} {line}");
                 Err(Stop::Spool(3))
             }
-            Err(RestoreFault::Memory) => Err(Stop::Fault(Fault::Memory)),
+            Err(RestoreFault::Memory) => Err(Stop::Memory),
         }
     }
 }
@@ -120,7 +119,7 @@ pub fn restore_all<'a, L: Ledgers, K: Sink + Drop, R: Eprint + Wait + Clock>(
     files: Vec<SpoolFiles<'a, R>>,
 ) -> Result<(Spools<'a, R>, Pass<L>), Stop> {
     let Ok(pass) = hub.seat(rt) else {
-        return Err(Stop::Fault(Fault::Memory));
+        return Err(Stop::Memory);
     };
     let mut channel = Restored {
         rt,
@@ -155,6 +154,6 @@ fn begin_all<'a, R: Eprint>(
 pub fn push<T: Drop>(list: &mut Vec<T>, last: T) -> Result<(), Stop> {
     match list.push(last) {
         Ok(()) => Ok(()),
-        Err(_) => Err(Stop::Fault(Fault::Memory)),
+        Err(_) => Err(Stop::Memory),
     }
 }

@@ -3,8 +3,7 @@ ghost use denote.Param.Send.{IsSend};
 ghost use Rattle.std.specs.Prelude.{◌≡◌, ◌≤◌, length};
 
 use crate::watch::Watch;
-use ll_command::Fault;
-use ll_config::{Config, ConfigFault, Workers};
+use ll_config::{Config, Workers};
 use ll_counts::Numbers;
 use ll_files::{Log, Records, SpoolFiles, Unusable};
 use ll_hub::{Bell, Blanks, Clock, Hub, HubFault, Ledgers, Pass, Sink};
@@ -50,7 +49,7 @@ pub fn serve<
         + Wait
         + Sync,
 >(rt: &R, alloc: Global, settings: &[u8]) -> Result<(), Stop> {
-    let config = read_config(alloc, settings)?;
+    let config = Config::read(alloc, settings)?;
     let files = open_spools(rt, alloc, &config)?;
     let server = open_server(rt, alloc, &config)?;
     let ((), done) = thread::join(
@@ -98,19 +97,10 @@ fn open_spools<'a, R: Files<File = File> + Eprint>(
         match SpoolFiles::open(rt, alloc, directory, settings) {
             Ok(Ok(opened)) => push(&mut files, opened)?,
             Ok(Err(Unusable)) => return Err(Stop::Spool(4)),
-            Err(AllocError) => return Err(Stop::Fault(Fault::Memory)),
+            Err(AllocError) => return Err(Stop::Memory),
         }
     }
     Ok(files)
-}
-
-/// Reads a settings file.
-fn read_config(alloc: Global, settings: &[u8]) -> Result<Config, Fault> {
-    match Config::read(alloc, settings) {
-        Ok(config) => Ok(config),
-        Err(ConfigFault::BadLine(line)) => Err(Fault::BadLine(line)),
-        Err(ConfigFault::Memory) => Err(Fault::Memory),
-    }
 }
 
 /// Returns a server with the settings `config`, whose files it opens. Its time starts now.
@@ -118,13 +108,13 @@ fn open_server<'a, R: Files<File = File> + Eprint + time::Clock>(
     rt: &'a R,
     alloc: Global,
     config: &Config,
-) -> Result<Server<'a, R>, Fault> {
+) -> Result<Server<'a, R>, Stop> {
     let Ok(start) = Instant::now(rt) else {
-        return Err(Fault::Clock);
+        return Err(Stop::Clock);
     };
     match server_from(rt, alloc, config, start) {
         Ok(server) => Ok(server),
-        Err(AllocError) => Err(Fault::Memory),
+        Err(AllocError) => Err(Stop::Memory),
     }
 }
 
@@ -206,15 +196,15 @@ fn host<
 {
     let pollers = pollers(server.rt, server.workers);
     let Ok(bells) = Bells::new(server.rt, server.alloc, pollers, channels.len()) else {
-        return Err(Stop::Fault(Fault::Memory));
+        return Err(Stop::Memory);
     };
     let Ok(hub) = Hub::<L>::new(server.alloc, channels, blanks) else {
-        return Err(Stop::Fault(Fault::Memory));
+        return Err(Stop::Memory);
     };
     match serve_at(&*server, &hub, &bells, &doors, files) {
         Ok((passes, all)) => match hub.finish(passes) {
             Ok(_) if all => Ok(()),
-            _ => Err(Stop::Fault(Fault::Memory)),
+            _ => Err(Stop::Memory),
         },
         Err(stop) => {
             let _ = hub.finish(Vec::new(server.alloc));

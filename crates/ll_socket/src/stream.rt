@@ -61,11 +61,7 @@ pub(crate) fn send_two<S: Stream>(
 }
 
 /// Writes `first` and then `second` by one system call, and again as long as a signal interrupts that.
-fn write_both<S: Stream>(
-    stream: &mut S,
-    first: &[u8],
-    second: &[u8],
-) -> io::Result<usize>
+fn write_both<S: Stream>(stream: &mut S, first: &[u8], second: &[u8]) -> io::Result<usize>
     ensures again { IfErr result (λ e. error_kind e ≢ ErrorKind.Interrupted) }
     ensures bound { WritesAtMost result (first.now ++ second.now) }
     ensures bytes { WriteAppends (S.contents stream.old) (S.contents stream.new) result (first.now ++ second.now) }

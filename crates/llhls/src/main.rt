@@ -42,8 +42,7 @@ fn main(rt: HostRuntime) -> ExitCode {
         Ok(Ending::Refused(answer)) => Ok(refused(&rt, &answer)),
         Ok(Ending::Serve(settings)) => match serve(&rt, rt.alloc(), &settings) {
             Ok(()) => Ok(ExitCode::SUCCESS),
-            Err(Stop::Fault(fault)) => Err(fault),
-            Err(Stop::Spool(status)) => Ok(ExitCode::from(status)),
+            Err(stop) => stopped(stop),
         },
         Ok(Ending::Push(job)) => {
             let input = (rt.stdin(), rt.stderr().is_terminal());
@@ -68,6 +67,17 @@ fn main(rt: HostRuntime) -> ExitCode {
             let _ = eprintln!(rt; "llhls: {fault}");
             ExitCode::from(fault.status())
         }
+    }
+}
+
+/// Returns the exit status of a server that stopped so, or the fault that is yet to be said.
+fn stopped(stop: Stop) -> Result<ExitCode, Fault> {
+    match stop {
+        Stop::BadLine(line) => Err(Fault::BadLine(line)),
+        Stop::Clock => Err(Fault::Clock),
+        Stop::Listen => Err(Fault::Listen),
+        Stop::Memory => Err(Fault::Memory),
+        Stop::Spool(status) => Ok(ExitCode::from(status)),
     }
 }
 
