@@ -63,18 +63,12 @@ start tests/build_lines.sh
 begin nice -n 5 tests/try_tests.sh
 begin nice -n 5 tests/try_rows.sh 40
 echo "== rt ci"
-# proves: runs `rt ci`, whose output it leaves in $room/proofs and its status in $room/proofs.status. With RT_JOBS, it doesn't plan with several times the
-# memory that a check takes, which would have fewer crates side by side. One of its lanes mostly waits for the run ahead.
-proves() {
-    env RT_JOBS=$((${RT_JOBS:-$(nproc)} + 1)) nice -n 5 rt ci 2>&1 | tee "$room/proofs"
-    echo "${PIPESTATUS[0]}" >"$room/proofs.status"
-}
-# A line for each crate shows that the proofs go on.
+# A line for each crate shows that the proofs go on. With more lanes than processors, one can wait for what another run proves.
 {
-    prove_ahead "$room" crates.txt 2>&1 | news &
-    proves | news
-    wait
-} </dev/null > >(tell "$(grep -c '^[a-z]' crates.txt)" "$room/ahead" "$root") &
+    lanes=$((${RT_JOBS:-$(nproc)} + 1)) prove_ahead "$room" crates.txt > >(news) 2>&1
+    rt ci 2>&1 | tee "$room/proofs" | news
+    echo "${PIPESTATUS[0]}" >"$room/proofs.status"
+} </dev/null > >(tell "$(grep -c '^[a-z]' crates.txt)" "$room"/{ahead,beside} "$root") &
 proofs=$!
 # The program is tested as soon as it is proved, since the last proofs leave processors idle.
 until grep -Eqs '^rt: llhls (proved$|is kept: )' "$room/proofs" || [ -e "$room/proofs.status" ]; do

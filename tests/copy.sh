@@ -36,20 +36,25 @@ keeps() {
     (cd "$1" && rt ci && rt ci) 2>&1 | grep ' is kept: ' >/dev/null
 }
 
-# prove_ahead FOLDER FILE: proves what the last crate of the longest chain of what stands on what stands on, in a copy in FOLDER; FILE, which has the form
-# of crates.txt, lists the crates. It is to run beside an `rt ci` over all crates, and each run takes what the other has proved.
+# prove_ahead FOLDER FILE: proves in copies in FOLDER, ahead of an `rt ci` over all crates, which takes what is proved here. FILE, which has the form of
+# crates.txt, lists the crates. `lanes` is how many are proved side by side, or empty for as many as `rt ci` finds memory for.
 #
-# Most crates wait for one another in that chain. `rt ci` over all crates has one processor prove a crate, while this run divides the processors among
-# those of its crates that are ready.
+# Most crates wait for one another in the longest chain of what stands on what. So what the last of that chain stands on has a run of its own, which
+# divides the processors among those of its crates that are ready. A niced run over all but that last one, which proves a crate by one processor, takes
+# what the first leaves idle; it may go on when this function returns. Each takes what the other has proved.
 prove_ahead() {
+    local below last
     # If the kit keeps nothing, each run would prove all.
     keeps "$1/tiny" || return 0
-    copy_crates "$1/ahead" "$(last_but_one <"$2")"
-    cd "$1/ahead" && rt ci
+    read -r below last < <(longest_chain <"$2")
+    copy_crates "$1/beside" $(grep -o '^[a-z_]*' "$2" | grep -vFx "$last")
+    (cd "$1/beside" && RT_JOBS=${lanes-} nice -n 4 rt ci) &
+    copy_crates "$1/ahead" "$below"
+    (cd "$1/ahead" && rt ci)
 }
 
-# last_but_one: reads lines of crates.txt on standard input, and prints the last crate but one of the longest chain of crates that stand on one another.
-last_but_one() {
+# longest_chain: reads lines of crates.txt on standard input, and prints the last two of the longest chain of crates that stand on one another.
+longest_chain() {
     awk -F ': *' '
         { sub(/ *#.*/, "") }
         $1 == "" { next }
@@ -63,7 +68,7 @@ last_but_one() {
                 }
             if (high[$1] > high[last]) last = $1
         }
-        END { print below[last] }'
+        END { print below[last], last }'
 }
 
 # news: passes on those lines of what `rt ci` prints that `tell` reads, each whole.
