@@ -64,25 +64,7 @@ pub fn push<R: Reader, C: Calendar, S: Source, W: Watch>(
     ensures steady { OnOk result ((R.failures source.new ≡ R.failures source.old) × (C.failures clock.new ≡ C.failures clock.old)) }
 {
     let mut publisher = Publisher { publication: None };
-    let mut idle = 0;
-    for _ in 0..u64::MAX {
-        let Some(mut link) = origin.next() else {
-            return Err(PushFault::Connect);
-        };
-        let step = publisher.publish_on(alloc, target, source, clock, &mut link, watch);
-        drop(link);
-        match step {
-            Ok(Step::Whole) => return Ok(Ending::Whole),
-            Ok(Step::Refused(line)) => return Ok(Ending::Refused(line)),
-            Ok(Step::Gone { accepted }) => idle = idle_after(accepted, idle),
-            Err(fault) => return Err(fault),
-        }
-        if idle > tries {
-            return Err(PushFault::Connect);
-        }
-        watch.lost();
-    }
-    Err(PushFault::Endless)
+    publisher.publish_at(alloc, target, tries, source, clock, origin, watch)
 }
 
 /// Returns how many connections in a row had nothing accepted: `idle` before the last one, which had something if `accepted`.
@@ -109,6 +91,53 @@ impl Model for Publisher {
 }
 
 impl Publisher {
+    /// Does what [`push`] does.
+    fn publish_at<R: Reader, C: Calendar, S: Source, W: Watch>(
+        &mut self,
+        alloc: Global,
+        target: &Target<'_>,
+        tries: u64,
+        source: &mut R,
+        clock: &mut C,
+        origin: &mut S,
+        watch: &mut W,
+    ) -> Result<Ending, PushFault>
+        requires { self.old ≡ None }
+        ensures told { IfOk result EndsByAnswer }
+        ensures went { (ahead : Ahead) → told_ahead (R.left source.old) (C.coming clock.old) ≡ Some ahead
+            → IfOk result (λ ending. HasEnded (spec.task S.next_gives (link_value S.Peer.written S.Peer.inward S.Peer.failures) tries (targeted target.now) ahead origin.old) (told_ahead (R.left source.new) (C.coming clock.new)) origin.new (step_of ending)) }
+        ensures gave_up { (ahead : Ahead) → told_ahead (R.left source.old) (C.coming clock.old) ≡ Some ahead → IsErrOf result PushFault.Connect
+            → HasGivenUp (spec.task S.next_gives (link_value S.Peer.written S.Peer.inward S.Peer.failures) tries (targeted target.now) ahead origin.old) (told_ahead (R.left source.new) (C.coming clock.new)) origin.new }
+        ensures broke { (ahead : Ahead) (fault : PushFault) → told_ahead (R.left source.old) (C.coming clock.old) ≡ Some ahead → IsErrOf result fault → IsOfConnection fault
+            → HasBroken (spec.task S.next_gives (link_value S.Peer.written S.Peer.inward S.Peer.failures) tries (targeted target.now) ahead origin.old) origin.new fault }
+        ensures endless { (ahead : Ahead) → told_ahead (R.left source.old) (C.coming clock.old) ≡ Some ahead → IsErrOf result PushFault.Endless
+            → (R.reads source.old + most ≤ R.reads source.new)
+            ⊎ HasLasted (spec.task S.next_gives (link_value S.Peer.written S.Peer.inward S.Peer.failures) tries (targeted target.now) ahead origin.old) origin.new }
+        ensures read_failed { IsErrOf result PushFault.Read → R.failures source.old < R.failures source.new }
+        ensures clock_failed { IsErrOf result PushFault.Clock → C.failures clock.old < C.failures clock.new }
+        ensures steady { OnOk result ((R.failures source.new ≡ R.failures source.old) × (C.failures clock.new ≡ C.failures clock.old)) }
+    {
+        let mut idle = 0;
+        for _ in 0..u64::MAX {
+            let Some(mut link) = origin.next() else {
+                return Err(PushFault::Connect);
+            };
+            let step = self.publish_on(alloc, target, source, clock, &mut link, watch);
+            drop(link);
+            match step {
+                Ok(Step::Whole) => return Ok(Ending::Whole),
+                Ok(Step::Refused(line)) => return Ok(Ending::Refused(line)),
+                Ok(Step::Gone { accepted }) => idle = idle_after(accepted, idle),
+                Err(fault) => return Err(fault),
+            }
+            if idle > tries {
+                return Err(PushFault::Connect);
+            }
+            watch.lost();
+        }
+        Err(PushFault::Endless)
+    }
+
     /// Publishes on one connection: asks where the rendition stands, and goes on there.
     fn publish_on<R: Reader, C: Calendar, P: Link, W: Watch>(
         &mut self,

@@ -6,7 +6,7 @@ use Rattle.ll_push.specs.Meaning.{targeted}
 use Rattle.ll_push.specs.declared.fault.PushFault.TheVariants.{Endless}
 use Rattle.ll_push.proofs.HistoryLemmas.{broken-by, ended-by, gave-none, gave-up, lasted, lasted-by, least-by, many-by, then-gone, went-first}
 use Rattle.ll_push.proofs.ExchangeLemmas.{same-fault}
-use Rattle.ll_push.proofs.connections.push.Goals as goal
+use Rattle.ll_push.proofs.connections.Publisher.publish_at.Goals as goal
 
 ok-by : {T E : Type 0} (r : Result T E) (x : T) (P : T → Type 0) → r ≡ Ok x → IfOk r P → P x
 ok-by r x P is h = subst (λ t. IfOk t P) is h
@@ -16,7 +16,7 @@ ok-to r x P is h = subst (λ t. OnOk t P) is h
 
 pub loop-init : goal.loop-init
 loop-init g c = record {
-  went = λ a told. went-first _ _ _ refl told;
+  went = λ a told. went-first _ _ _ c.requires told;
   later = search rules;
   few = search rules;
   least = search rules;
