@@ -9,6 +9,7 @@ use Rattle.ll_mp4.specs.Boxes.{Front, Header, after, and_then, boxes, front_by, 
 use Rattle.ll_mp4.specs.Lefts.{Left, at_front, dropped, fed, index_size, is_index, size_where, without_index}
 use Rattle.ll_mp4.specs.Units.{Unit, Open, unit_of}
 use Rattle.ll_mp4.specs.declared.boxes.BoxHead.{BoxHead}
+use Rattle.ll_mp4.specs.declared.fault.StreamFault.{StreamFault}
 use Rattle.ll_mp4.proofs.BoxLemmas.{AtLeast, header_least, one_more}
 use Rattle.ll_mp4.proofs.MoreLemmas.{Same, header-same}
 use Rattle.ll_mp4.proofs.UnitLemmas.{short, unit_none}
@@ -297,3 +298,12 @@ index_torn bytes head e k part =
     let nothing : index_in (drop head.size bytes) ≡ 0 = ap index_in (drop_all head.size bytes (omega (arith, part))) in
     let is = index-is bytes head e k in
     same-left _ _ _ _ (omega (arith, is, nothing)) (drop_all (index_in bytes) bytes (omega (arith, is, part)))
+
+pub index_other : (bytes : List ℕ) (head : BoxHead) → header_of bytes ≡ Ok (Some head) → is_index head.kind ≡ false → dropped (index_in bytes) bytes ≡ at_front bytes
+index_other bytes head e k = ap (λ n. dropped n bytes) (index_front bytes ∙ ap (index_by bytes) e ∙ rw k refl) ∙ dropped-none bytes
+
+pub index_none : (bytes : List ℕ) → header_of bytes ≡ Ok None → dropped (index_in bytes) bytes ≡ at_front bytes
+index_none bytes e = ap (λ n. dropped n bytes) (index_front bytes ∙ ap (index_by bytes) e) ∙ dropped-none bytes
+
+pub index_bad : (bytes : List ℕ) (fault : StreamFault) → header_of bytes ≡ Err fault → dropped (index_in bytes) bytes ≡ at_front bytes
+index_bad bytes fault e = ap (λ n. dropped n bytes) (index_front bytes ∙ ap (index_by bytes) e) ∙ dropped-none bytes

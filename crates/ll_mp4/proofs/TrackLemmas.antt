@@ -1,8 +1,9 @@
--- The time scales of tracks, one after another.
-use Rattle.std.proofs.Common.{◌≡◌, ℕ, List, [], ◌∷◌, ◌++◌, Result, Ok, Err, refl, ap, sym, ◌∙◌, append_assoc, append-nil, map}
+-- The time scales of tracks, and their defaults, one after another.
+use Rattle.std.proofs.Common.{◌≡◌, ℕ, List, [], ◌∷◌, ◌++◌, Result, Ok, Err, refl, ap, sym, ◌∙◌, append_assoc, append-nil, map, ◌==◌, true, false, arith}
+use Rattle.std.proofs.lemmas.Bool.Decides.{nat_tests}
 use Rattle.ll_mp4.specs.Boxes.{Contents, Ended, Content}
-use Rattle.ll_mp4.specs.Movies.{listed_in, listed_of}
-use Rattle.ll_mp4.specs.Numbers.{◌>>=◌}
+use Rattle.ll_mp4.specs.Movies.{listed_in, listed_of, trex_for}
+use Rattle.ll_mp4.specs.Numbers.{◌>>=◌, number_at}
 use Rattle.ll_mp4.specs.Tracks.{scales_after}
 use Rattle.ll_mp4.specs.declared.fault.StreamFault.{StreamFault}
 use Rattle.ll_mp4.specs.declared.track.Listed.{Listed}
@@ -22,3 +23,10 @@ scales_more before trak later track e =
 -- no more
 pub scales_done : (before : List TimeScale) → scales_after before (listed_in Ended) ≡ Ok before
 scales_done before = ap Ok (append-nil before)
+
+-- defaults of the track, or of another
+pub trex_this : (id n : ℕ) (trex : List ℕ) (later : Contents) → number_at 4 trex ≡ Ok n → n ≡ id → trex_for id (Content trex later) ≡ Ok trex
+trex_this id n trex later e is = let same : (n == id) ≡ true = grind (arith, nat_tests) in rw e (rw same refl)
+
+pub trex_other : (id n : ℕ) (trex : List ℕ) (later : Contents) → number_at 4 trex ≡ Ok n → (n ≡ id → ⊥) → trex_for id (Content trex later) ≡ trex_for id later
+trex_other id n trex later e is = let other : (n == id) ≡ false = grind (arith, nat_tests) in rw e (rw other refl)

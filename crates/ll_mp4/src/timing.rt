@@ -166,8 +166,15 @@ fn moment_in(movie: &Movie, traf: &[u8]) -> Result<Option<Moment>, StreamFault>
     let tfhd = only(Kind::Tfhd, traf)?;
     let id = number_at(4, tfhd)?;
     let time = read_time(traf)?;
-    match (movie.scale_of(id), time) {
-        (Some(scale), Some(time)) => Ok(Some(Moment { time, scale })),
-        _ => Ok(None),
+    Ok(moment_by(movie.scale_of(id), time))
+}
+
+/// Returns the decode time `time` in a track of `scale` ticks a second, if both are known.
+fn moment_by(scale: Option<u32>, time: Option<u64>) -> Option<Moment>
+    ensures { result ≡ moments.moment_by scale time }
+{
+    match (scale, time) {
+        (Some(scale), Some(time)) => Some(Moment { time, scale }),
+        _ => None,
     }
 }
