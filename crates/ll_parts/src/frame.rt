@@ -1,7 +1,7 @@
 //! Makes the pieces of a movie, fragment by fragment, once the next fragment of each is known.
 ghost use Rattle.std.specs.Prelude.{◌≡◌, ◌≢◌, ◌+◌, ◌++◌, ◌∷◌, IfOk, true};
 ghost use Rattle.ll_parts.specs.Joined as spec;
-ghost use Rattle.ll_parts.specs.Joined.{step_of};
+ghost use Rattle.ll_parts.specs.Joined.{group_of, step_of};
 ghost use Rattle.ll_parts.specs.Pieces.{ending, part_of};
 ghost use Rattle.ll_runs.specs.Times.{is_counted, place_of};
 ghost use Rattle.ll_runs.specs.declared.times.Next.{Next};
@@ -9,7 +9,7 @@ ghost use Rattle.ll_runs.specs.declared.times.Next.{Next};
 use crate::bytes::Bytes;
 use crate::heading::Heading;
 use crate::pieces::{MediaPart, Piece, Pieces};
-use crate::stage::{Group, Onward};
+use crate::stage::{Group, Held, Onward};
 use ll_runs::{Cut, Judged, Lengths, Next, Times, Weight};
 use ll_shift::Shift;
 use std::alloc::{AllocError, Global};
@@ -175,5 +175,24 @@ impl Frame<'_> {
             bytes: Bytes::new(self.alloc),
             end,
         })
+    }
+
+    /// Appends to `out` the pieces that `held` completes as its movie's last fragment; it begins at the position of `times`, and `under` are the bytes
+    /// of the part under way. Returns the end of the rendition then, in microseconds.
+    pub(crate) fn end_held(
+        &self,
+        times: Times,
+        under: Bytes,
+        held: Held,
+        out: &mut Pieces,
+    ) -> Result<u64, AllocError>
+        requires { is_counted self.now.heading.now.scale (times.position + held.ticks) ≡ true }
+        ensures end { IfOk result (λ end. end ≡ (step_of self.now.lengths.now self.now.heading.now times under (group_of held held.since) Next.Over).onward.end) }
+        ensures pieces { IfOk result (λ _. out.new ≡ out.old ++ (step_of self.now.lengths.now self.now.heading.now times under (group_of held held.since) Next.Over).pieces) }
+    {
+        let count = held.since.len();
+        let group = held.group(count)?;
+        let onward = self.step(times, under, group, Next::Over, out)?;
+        Ok(onward.end)
     }
 }

@@ -14,7 +14,7 @@ use crate::pieces::{Piece, Pieces};
 use crate::stage::{Held, Parting, Stage};
 use ll_mp4::{Moment, Movie, StreamFault, Timing};
 use ll_runs::{
-    Lengths, Next, SIZE_LIMIT, Span, Times, ends_run, next_after, next_at, place_of, refusal_at,
+    Lengths, SIZE_LIMIT, Span, Times, ends_run, next_after, next_at, place_of, refusal_at,
     refusal_of,
 };
 use std::alloc::{AllocError, Global};
@@ -90,7 +90,7 @@ impl Joiner {
         match self.leave() {
             Stage::Silent(_) => Ok(()),
             Stage::Under(held, times, under) => {
-                self.finish_part(held, times, under, out)?;
+                self.end = self.frame().end_held(times, under, held, out)?;
                 Ok(())
             }
             Stage::Prompt(_, times) => {
@@ -99,26 +99,6 @@ impl Joiner {
                 Ok(())
             }
         }
-    }
-
-    /// Appends to `out` the pieces that `held` completes as its movie's last fragment; `times` are those of its run, `under` the bytes of the part
-    /// under way.
-    fn finish_part(
-        &mut self,
-        held: Held,
-        times: Times,
-        under: Bytes,
-        out: &mut Pieces,
-    ) -> Result<(), AllocError>
-        requires { is_counted self.old.heading.scale (times.position + held.ticks) ≡ true }
-        ensures pieces { IfOk result (λ _. out.new ≡ out.old ++ over self.old (spec.under held times under)) }
-        ensures after { IfOk result (λ _. self.new ≡ record self.old { end = spec.end_of self.old (spec.under held times under) }) }
-    {
-        let count = held.since.len();
-        let group = held.group(count)?;
-        let onward = self.frame().step(times, under, group, Next::Over, out)?;
-        self.end = onward.end;
-        Ok(())
     }
 
     /// Adds a fragment of the governing track with this `timing`, and appends the pieces that it completes to `out`.
@@ -274,7 +254,7 @@ impl Joiner {
     #[tactic(auto, unfolding(crate::specs::Joined::refusal))]
     fn hear_first_part(
         &mut self,
-        lead: Bytes,
+        mut lead: Bytes,
         bytes: &[u8],
         timing: Timing,
         out: &mut Pieces,
@@ -297,8 +277,8 @@ impl Joiner {
             self.stage = Stage::Silent(lead);
             return Err(fault);
         }
-        let part = lead.with(Bytes::of(self.alloc, bytes)?)?;
-        let after = self.frame().add_part(times, part, timing, out)?;
+        lead.add(bytes)?;
+        let after = self.frame().add_part(times, lead, timing, out)?;
         self.stage = Stage::Prompt(Bytes::new(self.alloc), after);
         Ok(())
     }
@@ -307,7 +287,7 @@ impl Joiner {
     #[tactic(auto, using(ll_runs::proofs::TimeLemmas::counted_place), unfolding(crate::specs::Joined::refusal))]
     fn hear_part(
         &mut self,
-        lead: Bytes,
+        mut lead: Bytes,
         times: Times,
         bytes: &[u8],
         timing: Timing,
@@ -331,9 +311,8 @@ impl Joiner {
             self.stage = Stage::Prompt(lead, times);
             return Err(fault);
         }
-        let part = lead.with(Bytes::of(self.alloc, bytes)?)?;
-        self.frame().end_before(&times, next, out)?;
-        let after = self.frame().add_part(run, part, timing, out)?;
+        lead.add(bytes)?;
+        let after = self.frame().add_next(&times, next, lead, timing, out)?;
         self.stage = Stage::Prompt(Bytes::new(self.alloc), after);
         Ok(())
     }

@@ -25,12 +25,7 @@ impl Frame<'_> {
 
     /// Appends to `out` the pieces before `next`: if the run ends, a finish if a segment is open, a break and
     /// the initialization section.
-    pub(crate) fn end_before(
-        &self,
-        times: &Times,
-        next: Next,
-        out: &mut Pieces,
-    ) -> Result<(), AllocError>
+    fn end_before(&self, times: &Times, next: Next, out: &mut Pieces) -> Result<(), AllocError>
         requires { is_counted self.now.heading.now.scale (place_of next) ≡ true }
         ensures { IfOk result (λ _. out.new ≡ out.old ++ spec.said_between self.now.heading.now times.now next) }
     {
@@ -66,5 +61,26 @@ impl Frame<'_> {
         let finishes = run.finishes(self.lengths, lasts);
         out.push(self.part(&run, bytes, lasts, finishes)?)?;
         Ok(run.past(timing.ticks, run.part_end(lasts) as u64, finishes))
+    }
+
+    /// Appends to `out` the pieces between a run with these `times` and `next`, and then a fragment's part of these `bytes`, which is at `next`.
+    /// Returns the times after it.
+    pub(crate) fn add_next(
+        &self,
+        times: &Times,
+        next: Next,
+        bytes: Bytes,
+        timing: Timing,
+        out: &mut Pieces,
+    ) -> Result<Times, AllocError>
+        requires place { is_counted self.now.heading.now.scale (place_of next) ≡ true }
+        requires counted { is_counted self.now.heading.now.scale ((runs.times_at times.now next).position + timing.ticks) ≡ true }
+        requires early { runs.part_end (runs.times_at times.now next) (runs.part_lasts self.now.heading.now.scale (runs.times_at times.now next) timing.ticks) < 2 ^ 64 }
+        ensures pieces { IfOk result (λ _. out.new ≡ out.old ++ (spec.said_between self.now.heading.now times.now next ++ (parted self.now.lengths.now self.now.heading.now (runs.times_at times.now next) bytes timing).piece ∷ [])) }
+        ensures times { IfOk result (λ after. after ≡ (parted self.now.lengths.now self.now.heading.now (runs.times_at times.now next) bytes timing).times) }
+        ensures counted { IfOk result (λ after. is_counted self.now.heading.now.scale after.position ≡ true) }
+    {
+        self.end_before(times, next, out)?;
+        self.add_part(times.at(next), bytes, timing, out)
     }
 }
