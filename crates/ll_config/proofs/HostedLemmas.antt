@@ -1,5 +1,6 @@
 -- The channels of the lines so far.
-use Rattle.std.proofs.Common.{◌≡◌, ◌⊎◌, inl, inr, ℕ, ◌+◌, ◌<◌, ◌≤◌, List, [], ◌∷◌, Bool, true, false, cond, Option, Some, None, IsSome, Result, Ok, Err, refl, ap, sym, subst, ◌∙◌, true≢false, arith}
+use Rattle.std.proofs.Common.{◌≡◌, ◌⊎◌, inl, inr, ℕ, ◌+◌, ◌<◌, ◌≤◌, ◌==◌, List, [], ◌∷◌, Bool, true, false, cond, Option, Some, None, IsSome, Result, Ok, Err, refl, ap, sym, subst, ◌∙◌, length, true≢false, arith}
+use Rattle.std.proofs.lemmas.Bool.Decides.{nat_tests}
 use Rattle.std.specs.Str.{is_utf8}
 use Rattle.ll_config.proofs.RightLemmas.{hosted_right}
 use Rattle.ll_config.specs.Config.{Hosted, Left, hosted_from, hosted_then, next_text, nobody, text_of, with_line}
@@ -88,3 +89,12 @@ right-by first left new all text same order (inr past) h some =
 pub reads_memory : (first left new : Left) (all : Hosted) (text : List ℕ) → Reads first left all → next_text left ≡ Ok (text, new)
     → IsSome (with_line nobody text) → IsRightTo first.number (hosted_from nobody first.lines first.number)
 reads_memory first left new all text r h some = right-by first left new all text r.same r.order r.begun h some
+
+-- no line is left
+by-none : (all : Hosted) (lines : List (List ℕ)) (number : ℕ) → (length lines == 0) ≡ true → hosted_from all lines number ≡ hosted_from all [] number
+by-none all [] number over = refl
+by-none all (line ∷ rest) number over = absurd (grind (arith, nat_tests))
+
+pub reads_over : (first left : Left) (all : Hosted) → Reads first left all → (length left.lines == 0) ≡ true
+    → hosted_from nobody first.lines first.number ≡ hosted_from all [] left.number
+reads_over first left all r over = r.same ∙ by-none all left.lines left.number over

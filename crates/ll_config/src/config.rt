@@ -1,5 +1,5 @@
 //! Reads a server's settings file, which has one setting per line.
-ghost use Rattle.std.specs.Prelude.{◌≡◌, ◌≤◌, ◌<◌, ◌+◌, IfErr, IfOk, IfSome, IsErrOf, OnOk, Ok, length, option_map, ℕ};
+ghost use Rattle.std.specs.Prelude.{◌≡◌, ◌≤◌, ◌<◌, ◌+◌, [], IfErr, IfOk, IfSome, IsErrOf, OnOk, Ok, length, option_map, ℕ};
 ghost use Rattle.ll_config.specs.Config.{address_line, config_in, count_line, door_line, files_from, hosted_from, next, next_idle, next_path, next_status, nobody, path_line, workers_line};
 ghost use Rattle.ll_config.specs.Doors.{door_of};
 ghost use Rattle.ll_config.specs.Faults.{IsFault, IsRightPast, IsRightTo, LeadsPast};
@@ -271,6 +271,20 @@ fn read_hosted(alloc: Global, lines: &mut Lines<'_>) -> Result<Hosted, ConfigFau
     ensures few { IfOk result (λ all. length all.channels ≤ 1024) }
 {
     let mut all = Hosted::new(alloc);
+    add_lines(alloc, &mut all, lines)?;
+    if all.channels().is_empty() {
+        return Err(lines.missing());
+    }
+    Ok(all)
+}
+
+/// Adds to `all`, which has no channel yet, the channels of all lines that are left.
+#[tactic(auto, using(crate::proofs::HostedLemmas::reads_over))]
+fn add_lines(alloc: Global, all: &mut Hosted, lines: &mut Lines<'_>) -> Result<(), ConfigFault>
+    requires { all.old ≡ nobody }
+    ensures value { OnOk result (hosted_from nobody lines.old.lines lines.old.number ≡ hosted_from all.new [] lines.new.number) }
+    ensures bad { IfErr result (λ fault. IsFault fault (hosted_from nobody lines.old.lines lines.old.number) (IsRightTo lines.old.number (hosted_from nobody lines.old.lines lines.old.number))) }
+{
     while !lines.is_over() {
         let line = lines.text()?;
         match all.add_line(alloc, line) {
@@ -279,8 +293,5 @@ fn read_hosted(alloc: Global, lines: &mut Lines<'_>) -> Result<Hosted, ConfigFau
             Err(AllocError) => return Err(ConfigFault::Memory),
         }
     }
-    if all.channels().is_empty() {
-        return Err(lines.missing());
-    }
-    Ok(all)
+    Ok(())
 }

@@ -207,10 +207,7 @@ impl Settings {
     pub fn copy(&self, alloc: Global) -> Result<Settings, AllocError>
         ensures { IfOk result (λ s. s ≡ self.now) }
     {
-        let mut renditions = Vec::with_capacity(alloc, self.renditions.len())?;
-        for name in &self.renditions {
-            renditions.push(name.copy()?)?;
-        }
+        let renditions = copies(alloc, &self.renditions)?;
         Ok(Settings {
             channel: self.channel.copy()?,
             numbers: self.numbers,
@@ -300,4 +297,15 @@ impl Settings {
     {
         self.numbers.start
     }
+}
+
+/// Copies `names`.
+fn copies(alloc: Global, names: &[Text]) -> Result<Vec<Text>, AllocError>
+    ensures { IfOk result (λ copies. copies.items ≡ names.now) }
+{
+    let mut copies = Vec::with_capacity(alloc, names.len())?;
+    for name in names {
+        copies.push(name.copy()?)?;
+    }
+    Ok(copies)
 }

@@ -1,5 +1,5 @@
 //! Parsing of a settings line.
-ghost use Rattle.std.specs.Prelude.{◌≡◌, ◌≢◌, ◌∷◌, [], Ok, Err, None, Some, IfOk, IfErr, IsOk, IsErrOf, MatchOption, length};
+ghost use Rattle.std.specs.Prelude.{◌≡◌, ◌≢◌, ◌≤◌, ◌∷◌, [], Ok, Err, None, Some, IfOk, IfErr, IsOk, IsErrOf, MatchOption, length};
 ghost use Rattle.ll_attr.specs.Words.{words};
 ghost use Rattle.ll_settings.specs.Settings.{settings_in, configuration_of, names_in};
 ghost use Rattle.ll_settings.specs.Settings as spec;
@@ -7,7 +7,7 @@ ghost use Rattle.ll_settings.specs.Configured.{configured};
 
 use crate::name::{are_names_in, is_name};
 use crate::settings::{Numbers, Settings, SettingsFault, first_fault};
-use ll_attr::{Text, cut, one_word, parse_number};
+use ll_attr::{Text, after, cut, one_word, parse_number};
 use std::alloc::{AllocError, Global};
 
 impl Settings {
@@ -75,25 +75,47 @@ fn words_of(line: &str) -> Option<Words<'_>>
         (λ w. words line.now ≡ w.kind.now ∷ w.channel.now ∷ w.target.now ∷ w.part_target.now ∷ w.skip.now
         ∷ w.window.now ∷ w.renditions.now ∷ w.first.now ∷ w.start.now ∷ []) }
 {
-    let (kind, rest) = cut(line, ' ')?;
-    let (channel, rest) = cut(rest, ' ')?;
-    let (target, rest) = cut(rest, ' ')?;
-    let (part_target, rest) = cut(rest, ' ')?;
-    let (skip, rest) = cut(rest, ' ')?;
-    let (window, rest) = cut(rest, ' ')?;
-    let (renditions, rest) = cut(rest, ' ')?;
-    let (first, rest) = cut(rest, ' ')?;
-    let start = one_word(rest)?;
+    let a = four_words(line)?;
+    let b = four_words(a.rest)?;
+    let start = one_word(b.rest)?;
     Some(Words {
-        kind,
-        channel,
-        target,
-        part_target,
-        skip,
-        window,
-        renditions,
-        first,
+        kind: a.first,
+        channel: a.second,
+        target: a.third,
+        part_target: a.fourth,
+        skip: b.first,
+        window: b.second,
+        renditions: b.third,
+        first: b.fourth,
         start,
+    })
+}
+
+/// Four words, and what follows the space after them.
+#[derive(Clone, Copy)]
+struct FourWords<'a> {
+    first: &'a str,
+    second: &'a str,
+    third: &'a str,
+    fourth: &'a str,
+    rest: &'a str,
+}
+
+/// Splits `text` after its fourth word. Returns `None` if it has no more than four.
+fn four_words(text: &str) -> Option<FourWords<'_>>
+    ensures { MatchOption result (length (words text.now) ≤ 4)
+        (λ f. words text.now ≡ f.first.now ∷ f.second.now ∷ f.third.now ∷ f.fourth.now ∷ words f.rest.now) }
+{
+    let (first, rest) = cut(text, ' ')?;
+    let (second, rest) = cut(rest, ' ')?;
+    let (third, rest) = cut(rest, ' ')?;
+    let (fourth, rest) = cut(rest, ' ')?;
+    Some(FourWords {
+        first,
+        second,
+        third,
+        fourth,
+        rest,
     })
 }
 
@@ -117,22 +139,15 @@ fn fields_of_words(w: Words<'_>) -> Option<Fields<'_>>
             first: number(w.first, "first=")?,
             start: number(w.start, "start=")?,
         },
-        renditions: value(w.renditions, "renditions=")?,
+        renditions: after(w.renditions, "renditions=")?,
     })
-}
-
-/// Returns what follows `key` in `word`, or `None` if `word` doesn't begin with it.
-fn value<'a>(word: &'a str, key: &str) -> Option<&'a str>
-    ensures { MatchOption result (spec.value_of key.now word.now ≡ None) (λ v. spec.value_of key.now word.now ≡ Some v.now) }
-{
-    word.strip_prefix(key)
 }
 
 /// Parses the number that follows `key` in `word`.
 fn number(word: &str, key: &str) -> Option<u64>
     ensures { result ≡ spec.number_of key.now word.now }
 {
-    parse_number(value(word, key)?, 20)
+    parse_number(after(word, key)?, 20)
 }
 
 /// Returns the number of names that `text` joins by commas.

@@ -1,10 +1,13 @@
 -- Each line adds a channel or a secret, until one isn't allowed there, memory runs out or no line is left.
-use Rattle.std.proofs.Common.{None, Some, ap, cond, ◌∙◌}
+use Rattle.std.proofs.Common.{None, Some, ap, cond, subst, sym, ◌∙◌}
 use Rattle.ll_config.proofs.ConfigLemmas.{fault-is}
-use Rattle.ll_config.proofs.HostedLemmas.{reads_bad, reads_memory, reads_next}
+use Rattle.ll_config.proofs.HostedLemmas.{Reads, reads_bad, reads_memory, reads_next, reads_none}
 use Rattle.ll_config.specs.Config.{hosted_from, nobody}
 use Rattle.ll_config.specs.Faults.{IsRightTo}
-use Rattle.ll_config.proofs.config.read_hosted.Goals as goal
+use Rattle.ll_config.proofs.config.add_lines.Goals as goal
+
+pub loop-alloc-init : goal.loop-alloc-init
+loop-alloc-init c = subst (Reads c.args.lines.now c.args.lines.now) (sym c.requires) (reads_none c.args.lines.now)
 
 pub loop-alloc-preserved : goal.loop-alloc-preserved
 loop-alloc-preserved c =
