@@ -60,6 +60,40 @@ pub fn feed<R: Reader, C: Calendar, O: Outlets>(
     ensures own { IfErr result IsOfSource }
 {
     let mut publication = Publication::new(alloc, target, standing);
+    feed_on(
+        alloc,
+        target,
+        standing,
+        &mut publication,
+        source,
+        clock,
+        outlets,
+    )
+}
+
+/// Does what [`feed`] does, with a `publication` of which nothing was given yet.
+fn feed_on<R: Reader, C: Calendar, O: Outlets>(
+    alloc: Global,
+    target: &Target<'_>,
+    standing: &Standing,
+    publication: &mut Publication,
+    source: &mut R,
+    clock: &mut C,
+    outlets: &mut O,
+) -> Result<Fed, PushFault>
+    requires { publication.old ≡ at_start (targeted target.now) standing.now }
+    ensures fed { (ahead : Ahead) (before : List MessageValue) → told_ahead (R.left source.old) (C.coming clock.old) ≡ Some ahead → O.given outlets.old ≡ Some before
+        → IfOk result (HasFed (targeted target.now) (at_start (targeted target.now) standing.now) ahead before (O.given outlets.new)) }
+    ensures refused { (ahead : Ahead) (before : List MessageValue) (fault : StreamFault) → told_ahead (R.left source.old) (C.coming clock.old) ≡ Some ahead → O.given outlets.old ≡ Some before
+        → IsErrOf result (PushFault.Input fault) → HasGivenAll (targeted target.now) (at_start (targeted target.now) standing.now) ahead before (O.given outlets.new) (Some fault) }
+    ensures endless { (ahead : Ahead) (before : List MessageValue) → told_ahead (R.left source.old) (C.coming clock.old) ≡ Some ahead → O.given outlets.old ≡ Some before
+        → IsErrOf result PushFault.Endless
+        → (R.reads source.old + most ≤ R.reads source.new) ⊎ HasGivenMost (targeted target.now) (at_start (targeted target.now) standing.now) ahead before (O.given outlets.new) }
+    ensures read_failed { IsErrOf result PushFault.Read → R.failures source.old < R.failures source.new }
+    ensures clock_failed { IsErrOf result PushFault.Clock → C.failures clock.old < C.failures clock.new }
+    ensures steady { OnOk result ((R.failures source.new ≡ R.failures source.old) × (C.failures clock.new ≡ C.failures clock.old)) }
+    ensures own { IfErr result IsOfSource }
+{
     for _ in 0..u64::MAX {
         let Some(message) = publication.message(alloc, target, source, clock)? else {
             return Ok(Fed::Whole);

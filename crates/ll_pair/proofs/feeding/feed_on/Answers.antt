@@ -1,11 +1,22 @@
 -- Each message that is given adds to those that were.
-use Rattle.std.proofs.Common.{◌∙◌, arith, inr, Err, Some, ap}
+use Rattle.std.proofs.Common.{◌∙◌, arith, inr, Err, Some, ap, refl, rules, subst, sym}
 use Rattle.ll_push.specs.Meaning.{targeted}
 use Rattle.ll_push.specs.Publishing.{at_start, told_ahead}
 use Rattle.ll_push.specs.declared.fault.PushFault.TheVariants.{Input}
 use Rattle.ll_push.proofs.ExchangeLemmas.{same-fault}
-use Rattle.ll_pair.proofs.FedLemmas.{all-given, given-left, given-more, given-none, most-given}
-use Rattle.ll_pair.proofs.feeding.feed.Goals as goal
+use Rattle.ll_pair.proofs.FedLemmas.{Fed_so_far, all-given, given-left, given-more, given-none, most-given, none-given}
+use Rattle.ll_pair.proofs.feeding.feed_on.Goals as goal
+
+pub loop-init : goal.loop-init
+loop-init g c = record {
+  fed = λ ahead before told known.
+      subst (λ p. Fed_so_far (targeted c.args.target.now) (at_start (targeted c.args.target.now) c.args.standing.now) ahead before p
+      (told_ahead (g.R.Reader.left c.args.source.now) (g.C.Calendar.coming c.args.clock.now)) (g.O.Outlets.given c.args.outlets.now) 0)
+      (sym c.requires) (none-given _ _ _ _ _ _ told known);
+  later = search rules;
+  steady = refl;
+  calm = refl;
+}
 
 pub returns-in_err-message-clause-refused : goal.returns-in_err-message-clause-refused
 returns-in_err-message-clause-refused g c ahead before fault told known e =

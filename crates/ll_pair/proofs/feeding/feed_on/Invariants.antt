@@ -4,7 +4,7 @@ use Rattle.ll_announce.specs.Messages.{MessageValue}
 use Rattle.ll_push.specs.Meaning.{targeted}
 use Rattle.ll_push.specs.Publishing.{Ahead, at_start, told_ahead}
 use Rattle.ll_pair.proofs.FedLemmas.{Fed_so_far}
-use Rattle.ll_pair.proofs.feeding.feed.Given as goal
+use Rattle.ll_pair.proofs.feeding.feed_on.Given as goal
 
 abbrev pub invariant-loop : goal.invariant-loop
 invariant-loop g l = record {
