@@ -1,12 +1,12 @@
 #!/usr/bin/env bash
 # Proves every crate from nothing, and looks for each must-fail edit in its file, for what crates.txt lists, and at what `make build` prints. Beside
-# that, the crates' tests run as `rt try` builds them, with checks and from the sources alone, and some rows on the program that it builds so (`make
-# try` runs all of them). Once the program is proved, each row runs on it, as each compiler of the toolchain builds it. Beside these, the proved program
-# is tested with devices that give and take a few bytes at a time, large inputs, mutated playlists, mutated records, records in format 2, entries that
-# are explained, the bytes of connections cut in every way, connections that end too early, mutated heads, and calls whose memory is refused; and with
-# the server's addresses, log, what is published to it, and its records, which mostly wait; and its Debian package (SLOW=1: installed in a clean Debian too). Then
-# come, one at a time, the server with real sockets, what stands in front of it, a player that watches it, and a page in a browser. The last line is
-# the sum, `N passed, M failed`.
+# that, the crates' tests run as `rt try` builds them, with checks and from the sources alone (SLOW=1: some rows on the program that it builds so,
+# too; `make try` runs all of them). Once the program is proved, each row runs on it, as each compiler of the toolchain builds it. Beside these, the
+# proved program is tested with devices that give and take a few bytes at a time, large inputs, mutated playlists, mutated records, records in
+# format 2, entries that are explained, the bytes of connections cut in every way, connections that end too early, mutated heads, and calls whose
+# memory is refused; and with the server's addresses, log, what is published to it, and its records, which mostly wait; and its Debian package
+# (SLOW=1: installed in a clean Debian too). Then come, one at a time, the server with real sockets, what stands in front of it, a player that
+# watches it, and a page in a browser. The last line is the sum, `N passed, M failed`.
 . "$(dirname "${BASH_SOURCE[0]}")/common.sh" || exit 2
 cd "$root" || exit 2
 . tests/copy.sh
@@ -61,7 +61,9 @@ start tests/edits_apply.py
 start tests/listed.py
 start tests/build_lines.sh
 begin nice -n 5 tests/try_tests.sh
-begin nice -n 5 tests/try_rows.sh 40
+if [ -n "${SLOW-}" ]; then
+    begin nice -n 5 tests/try_rows.sh 40
+fi
 echo "== rt ci"
 # A line for each crate shows that the proofs go on. With more lanes than processors, one can wait for what another run proves.
 {

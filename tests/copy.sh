@@ -39,21 +39,22 @@ keeps() {
 # prove_ahead FOLDER FILE: proves in copies in FOLDER, ahead of an `rt ci` over all crates, which takes what is proved here. FILE, which has the form of
 # crates.txt, lists the crates. `lanes` is how many are proved side by side, or empty for as many as `rt ci` finds memory for.
 #
-# Most crates wait for one another in the longest chain of what stands on what. So what the last of that chain stands on has a run of its own, which
-# divides the processors among those of its crates that are ready. A niced run over all but that last one, which proves a crate by one processor, takes
-# what the first leaves idle; it may go on when this function returns. Each takes what the other has proved.
+# Most crates wait for one another in the longest chain of what stands on what. So what the fourth crate from that chain's end stands on, and this crate,
+# have a run of their own, which divides the processors among those of its crates that are ready. A niced run over all but the last three, which proves a
+# crate by one processor, takes what the first leaves idle; it may go on when this function returns. Each takes what the other has proved. The last
+# three are left to `rt ci`, which has most processors for them.
 prove_ahead() {
-    local below last
+    local fourth last
     # If the kit keeps nothing, each run would prove all.
     keeps "$1/tiny" || return 0
-    read -r below last < <(longest_chain <"$2")
-    copy_crates "$1/beside" $(grep -o '^[a-z_]*' "$2" | grep -vFx "$last")
+    read -r fourth last < <(longest_chain <"$2")
+    copy_crates "$1/beside" $(grep -o '^[a-z_]*' "$2" | grep -vFx "$(tr ' ' '\n' <<<"$last")")
     (cd "$1/beside" && RT_JOBS=${lanes-} nice -n 4 rt ci) &
-    copy_crates "$1/ahead" "$below"
+    copy_crates "$1/ahead" "$fourth"
     (cd "$1/ahead" && rt ci)
 }
 
-# longest_chain: reads lines of crates.txt on standard input, and prints the last two of the longest chain of crates that stand on one another.
+# longest_chain: reads lines of crates.txt on standard input, and prints the last four of the longest chain of crates that stand on one another.
 longest_chain() {
     awk -F ': *' '
         { sub(/ *#.*/, "") }
@@ -68,7 +69,7 @@ longest_chain() {
                 }
             if (high[$1] > high[last]) last = $1
         }
-        END { print below[last], last }'
+        END { print below[below[below[last]]], below[below[last]], below[last], last }'
 }
 
 # news: passes on those lines of what `rt ci` prints that `tell` reads, each whole.

@@ -35,6 +35,17 @@ pub struct Listeners<'a, R> {
     pub status: Option<StatusPort<'a, R>>,
 }
 
+impl<R: Net<Listener = TcpListener, Stream = TcpStream> + Eprint> Listeners<'_, R> {
+    /// Says on standard error where the ports are.
+    fn say(&self, rt: &R) -> Result<(), Failed> {
+        let (players, publishers) = (self.players.place()?, self.publishers.place()?);
+        let _ = eprintln!(rt; "llhls: players on {players}");
+        let _ = eprintln!(rt; "llhls: publishers on {publishers}");
+        say_status(rt, &self.status);
+        Ok(())
+    }
+}
+
 impl Doors {
     /// Listens at all of these, and says on standard error where.
     pub fn open<'a, R: Net<Listener = TcpListener, Stream = TcpStream> + Files + Eprint>(
@@ -56,20 +67,27 @@ impl Doors {
     ) -> Result<Listeners<'a, R>, Failed> {
         let patience = Some(Duration::from_secs(IDLE));
         let players = Listener::open(rt, self.players, Role::Player, patience)?;
-        let patience = self.idle.map(Duration::from_secs);
-        let publishers = match &self.publishers {
-            Door::Ip(address) => Listener::open(rt, *address, Role::Publisher, patience)?,
-            Door::Unix(path) => Listener::open_unix(rt, alloc, path.as_str(), patience)?,
-        };
+        let publishers = self.listen_to_publishers(rt, alloc)?;
         let status = open_status(rt, alloc, self.status)?;
-        let (asked, told) = (players.place()?, publishers.place()?);
-        let _ = eprintln!(rt; "llhls: players on {asked}");
-        let _ = eprintln!(rt; "llhls: publishers on {told}");
-        say_status(rt, &status);
-        Ok(Listeners {
+        let listeners = Listeners {
             players,
             publishers,
             status,
-        })
+        };
+        listeners.say(rt)?;
+        Ok(listeners)
+    }
+
+    /// Listens for publishers.
+    fn listen_to_publishers<'a, R: Net<Listener = TcpListener, Stream = TcpStream> + Files>(
+        &self,
+        rt: &'a R,
+        alloc: Global,
+    ) -> Result<Listener<'a, R>, Failed> {
+        let patience = self.idle.map(Duration::from_secs);
+        match &self.publishers {
+            Door::Ip(address) => Listener::open(rt, *address, Role::Publisher, patience),
+            Door::Unix(path) => Listener::open_unix(rt, alloc, path.as_str(), patience),
+        }
     }
 }

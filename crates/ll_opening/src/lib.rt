@@ -7,6 +7,6 @@ mod status;
 mod stop;
 
 pub use doors::{Doors, IDLE, Listeners};
-pub use restoring::{Spools, push, restore_all};
+pub use restoring::{Spools, restore_all};
 pub use status::serve_status;
 pub use stop::Stop;

@@ -68,6 +68,12 @@ impl<L: Ledgers, K: Sink + Drop, R: Wait + Clock> Accepts for Restored<'_, L, K,
 }
 
 impl<'a, L: Ledgers, K: Sink + Drop, R: Eprint + Wait + Clock> Restored<'a, L, K, R> {
+    /// Publishes the items of the spools whose files are `files`, and then makes these ready for further items.
+    fn restore_all(&mut self, files: Vec<SpoolFiles<'a, R>>) -> Result<Spools<'a, R>, Stop> {
+        let restored = self.restore_each(files)?;
+        begin_all(self.alloc, restored)
+    }
+
     /// Publishes the items of the spools whose files are `files`, one after another.
     fn restore_each(
         &mut self,
@@ -75,7 +81,10 @@ impl<'a, L: Ledgers, K: Sink + Drop, R: Eprint + Wait + Clock> Restored<'a, L, K
     ) -> Result<Vec<Spool<SpoolFiles<'a, R>>>, Stop> {
         let mut restored = Vec::new(self.alloc);
         for files in files {
-            push(&mut restored, self.restore(files)?)?;
+            let spool = self.restore(files)?;
+            if restored.push(spool).is_err() {
+                return Err(Stop::Memory);
+            }
         }
         Ok(restored)
     }
@@ -91,7 +100,9 @@ impl<'a, L: Ledgers, K: Sink + Drop, R: Eprint + Wait + Clock> Restored<'a, L, K
         let Ok(text) = files.text(self.alloc) else {
             return Err(Stop::Spool(4));
         };
-        match restore(self.alloc, settings, &text, files, self) {
+        let restored = restore(self.alloc, settings, &text, files, self);
+        drop(text);
+        match restored {
             Ok((spool, count)) => {
                 let _ = eprintln!(rt; "llhls: spool: {channel}: {count} items");
                 Ok(spool)
@@ -130,8 +141,7 @@ pub fn restore_all<'a, L: Ledgers, K: Sink + Drop, R: Eprint + Wait + Clock>(
         numbers,
         place: 0,
     };
-    let restored = channel.restore_each(files)?;
-    let spools = begin_all(alloc, restored)?;
+    let spools = channel.restore_all(files)?;
     Ok((spools, channel.pass))
 }
 
@@ -145,15 +155,9 @@ fn begin_all<'a, R: Eprint>(
         if spool.begin().is_err() {
             return Err(Stop::Spool(4));
         }
-        push(&mut spools, Mutex::new(spool))?;
+        if spools.push(Mutex::new(spool)).is_err() {
+            return Err(Stop::Memory);
+        }
     }
     Ok(spools)
-}
-
-/// Appends `last` to `list`.
-pub fn push<T: Drop>(list: &mut Vec<T>, last: T) -> Result<(), Stop> {
-    match list.push(last) {
-        Ok(()) => Ok(()),
-        Err(_) => Err(Stop::Memory),
-    }
 }

@@ -1,5 +1,6 @@
 //! Why a server doesn't start, or ends.
 use ll_config::ConfigFault;
+use std::alloc::AllocError;
 
 /// Why a server doesn't start, or ends.
 pub enum Stop {
@@ -13,6 +14,12 @@ pub enum Stop {
     Memory,
     /// A spool can't stand, or its files can't be used. Why was said on standard error; the program ends with this status.
     Spool(u8),
+}
+
+impl From<AllocError> for Stop {
+    fn from(_error: AllocError) -> Stop {
+        Stop::Memory
+    }
 }
 
 impl From<ConfigFault> for Stop {

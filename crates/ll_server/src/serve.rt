@@ -8,7 +8,7 @@ use ll_counts::Numbers;
 use ll_files::{Log, Records, SpoolFiles, Unusable};
 use ll_hub::{Bell, Blanks, Clock, Hub, HubFault, Ledgers, Pass, Sink};
 use ll_notes::Notes;
-use ll_opening::{Doors, IDLE, Listeners, Spools, Stop, push, restore_all, serve_status};
+use ll_opening::{Doors, IDLE, Listeners, Spools, Stop, restore_all, serve_status};
 use ll_serve::{Bells, Gate, Role, Service, serve_links, serve_players};
 use ll_settings::Settings;
 use ll_socket::Listener;
@@ -95,7 +95,11 @@ fn open_spools<'a, R: Files<File = File> + Eprint>(
     };
     for settings in config.hosted.channels() {
         match SpoolFiles::open(rt, alloc, directory, settings) {
-            Ok(Ok(opened)) => push(&mut files, opened)?,
+            Ok(Ok(opened)) => {
+                if files.push(opened).is_err() {
+                    return Err(Stop::Memory);
+                }
+            }
             Ok(Err(Unusable)) => return Err(Stop::Spool(4)),
             Err(AllocError) => return Err(Stop::Memory),
         }
@@ -112,10 +116,7 @@ fn open_server<'a, R: Files<File = File> + Eprint + time::Clock>(
     let Ok(start) = Instant::now(rt) else {
         return Err(Stop::Clock);
     };
-    match server_from(rt, alloc, config, start) {
-        Ok(server) => Ok(server),
-        Err(AllocError) => Err(Stop::Memory),
-    }
+    Ok(server_from(rt, alloc, config, start)?)
 }
 
 /// Returns a server with the settings `config`, whose files it opens, and whose time starts at `start`.
