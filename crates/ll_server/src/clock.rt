@@ -1,5 +1,5 @@
 //! What a server does as time goes by: it passes the channels the time, and hands out their records.
-use crate::serve::Server;
+use crate::server::Server;
 use ll_config::CHANNELS;
 use ll_hub::{Bell, Clock, HubFault, Ledgers, Sink};
 use ll_serve::Service;

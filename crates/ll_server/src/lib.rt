@@ -3,7 +3,7 @@
 
 mod clock;
 mod log_lines;
-mod serve;
+mod server;
 mod watch;
 
-pub use serve::serve;
+pub use server::serve;

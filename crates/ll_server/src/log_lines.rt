@@ -1,5 +1,5 @@
 //! The lines that a server writes to its log: what becomes of publishers' connections, and the numbers of its channels.
-use crate::serve::Server;
+use crate::server::Server;
 use ll_notes::{Notes, time_of_day};
 use std::sync::Wait;
 use std::thread;
