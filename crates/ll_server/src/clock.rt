@@ -1,9 +1,7 @@
 //! What a server does as time goes by: it passes the channels the time, and hands out their records.
-use crate::server::Server;
+use crate::server::{Server, Serving};
 use ll_config::CHANNELS;
-use ll_hub::{Bell, Clock, HubFault, Ledgers, Sink};
-use ll_serve::Service;
-use ll_spool::Disk;
+use ll_hub::{Clock, HubFault, Ledgers};
 use std::sync::Wait;
 use std::time::Duration;
 use std::{thread, time};
@@ -15,12 +13,9 @@ const TICK: u64 = 250;
 /// server stops is lost.
 const TICKS: u64 = 40;
 
-impl<R: time::Clock + Wait> Server<'_, R> {
+impl<R: Eprint + time::Clock + Wait> Server<'_, R> {
     /// Passes the channels the time, again and again. Hands out their records now and then, if these are kept.
-    pub(crate) fn keep_time<L: Ledgers, C, G, K: Sink, D: Disk, B: Bell>(
-        &self,
-        service: &Service<'_, L, C, G, K, D, B, R>,
-    ) {
+    pub(crate) fn keep_time<L: Ledgers>(&self, service: &Serving<'_, '_, L, R>) {
         for _ in self.rt.forever() {
             self.tick(service);
             self.hand_out(service);
@@ -28,10 +23,7 @@ impl<R: time::Clock + Wait> Server<'_, R> {
     }
 
     /// Passes the channels the time as often as that is done between two hand-outs of the records.
-    fn tick<L: Ledgers, C, G, K: Sink, D: Disk, B: Bell>(
-        &self,
-        service: &Service<'_, L, C, G, K, D, B, R>,
-    ) {
+    fn tick<L: Ledgers>(&self, service: &Serving<'_, '_, L, R>) {
         for _ in 0..TICKS {
             self.tell(service);
             thread::sleep(self.rt, Duration::from_millis(TICK));
@@ -40,10 +32,7 @@ impl<R: time::Clock + Wait> Server<'_, R> {
 
     /// Passes the channels the time once. If one refuses it, because its record is full or it is out of memory, hands out its record and
     /// passes it the time again; if it refuses again, goes on with those after it.
-    fn tell<L: Ledgers, C, G, K: Sink, D: Disk, B: Bell>(
-        &self,
-        service: &Service<'_, L, C, G, K, D, B, R>,
-    ) {
+    fn tell<L: Ledgers>(&self, service: &Serving<'_, '_, L, R>) {
         let (hub, ms) = (service.hub, self.watch.now());
         let (mut bell, mut past) = (*service.bell, hub.past());
         let (mut first, mut again) = (0, None);
@@ -68,10 +57,7 @@ impl<R: time::Clock + Wait> Server<'_, R> {
     }
 
     /// Hands out the record of each channel, if records are kept.
-    fn hand_out<L: Ledgers, C, G, K: Sink, D: Disk, B>(
-        &self,
-        service: &Service<'_, L, C, G, K, D, B, R>,
-    ) {
+    fn hand_out<L: Ledgers>(&self, service: &Serving<'_, '_, L, R>) {
         let mut past = service.hub.past();
         for channel in 0..self.records.len() {
             let mut sink = *service.sink;

@@ -6,13 +6,12 @@ use crate::watch::Watch;
 use ll_config::{Config, Workers};
 use ll_counts::Numbers;
 use ll_files::{Log, Records, SpoolFiles, Unusable};
-use ll_hub::{Bell, Blanks, Clock, Hub, HubFault, Ledgers, Pass, Sink};
+use ll_hub::{Blanks, Hub, HubFault, Ledgers, Pass};
 use ll_notes::Notes;
 use ll_opening::{Doors, IDLE, Listeners, Spools, Stop, restore_all, serve_status};
-use ll_serve::{Bells, Gate, Role, Service, serve_links, serve_players};
+use ll_serve::{Bells, Role, Service, serve_links, serve_players};
 use ll_settings::Settings;
 use ll_socket::Listener;
-use ll_spool::Disk;
 use ll_status::StatusPort;
 use std::alloc::{AllocError, Global};
 use std::fs::File;
@@ -37,6 +36,18 @@ pub(crate) struct Server<'a, R> {
     pub(crate) notes: Option<Notes<'a, R>>,
     workers: Workers,
 }
+
+/// What a server serves connections with: `'a` is how long it runs, `'s` how long it serves.
+pub(crate) type Serving<'s, 'a, L, R> = Service<
+    's,
+    L,
+    Watch<'a, R>,
+    Numbers<'a, R>,
+    &'s Records<'a, R>,
+    SpoolFiles<'a, R>,
+    &'s Bells,
+    R,
+>;
 
 /// Serves players and publishers of the channels of the settings file `settings`, until it is stopped. If their items are kept, first
 /// publishes those that were.
@@ -301,16 +312,9 @@ impl<
 
     /// Serves those who connect at the listeners and at the status port, and keeps the time. Returns the passes of those who serve players,
     /// and of those who serve publishers, each with the fault if they aren't all there.
-    fn work<
-        L: Ledgers + Send + Sync,
-        C: Clock + Sync,
-        G: Gate + Sync,
-        K: Sink + Sync,
-        D: Disk + Send,
-        B: Bell + Sync,
-    >(
+    fn work<L: Ledgers + Send + Sync>(
         &self,
-        service: &Service<'_, L, C, G, K, D, B, R>,
+        service: &Serving<'_, '_, L, R>,
         players: &mut Listener<'_, R>,
         publishers: &mut Listener<'_, R>,
         status: &mut Option<StatusPort<'_, R>>,
@@ -319,7 +323,7 @@ impl<
         let ((), served) = thread::join(
             self.rt,
             ||
-                requires { IsSend L.row × IsSend D.row }
+                requires { IsSend L.row }
             { self.watch_over(service, status) },
             ||
                 requires { IsSend L.row }
@@ -329,14 +333,11 @@ impl<
     }
 
     /// Keeps the time and the log, and serves the status port, if there is one.
-    fn watch_over<
-        L: Ledgers + Send + Sync,
-        C: Clock + Sync,
-        G: Gate + Sync,
-        K: Sink + Sync,
-        D: Disk + Send,
-        B: Bell + Sync,
-    >(&self, service: &Service<'_, L, C, G, K, D, B, R>, status: &mut Option<StatusPort<'_, R>>) {
+    fn watch_over<L: Ledgers + Send + Sync>(
+        &self,
+        service: &Serving<'_, '_, L, R>,
+        status: &mut Option<StatusPort<'_, R>>,
+    ) {
         let _ended = thread::join(
             self.rt,
             || serve_status(status, &self.numbers),
@@ -345,25 +346,15 @@ impl<
     }
 
     /// Keeps the time and, by a thread of its own, the log: a disk that stands still doesn't stop the time.
-    fn keep<L: Ledgers, C, G, K: Sink, D: Disk, B: Bell>(
-        &self,
-        service: &Service<'_, L, C, G, K, D, B, R>,
-    ) {
+    fn keep<L: Ledgers>(&self, service: &Serving<'_, '_, L, R>) {
         let _ended = thread::join(self.rt, || self.keep_log(), || self.keep_time(service));
     }
 
     /// Serves those who connect at the two listeners. Returns the passes of those who serve players, and of those who serve publishers,
     /// each with the fault if they aren't all there.
-    fn admit<
-        L: Ledgers + Send + Sync,
-        C: Clock + Sync,
-        G: Gate + Sync,
-        K: Sink + Sync,
-        D: Disk + Send,
-        B: Bell + Sync,
-    >(
+    fn admit<L: Ledgers + Send + Sync>(
         &self,
-        service: &Service<'_, L, C, G, K, D, B, R>,
+        service: &Serving<'_, '_, L, R>,
         players: &mut Listener<'_, R>,
         publishers: &mut Listener<'_, R>,
         bells: &Bells,
@@ -380,16 +371,9 @@ impl<
     }
 
     /// Serves the players who connect at `listener`. Returns the pollers' passes, and the fault if they aren't all there.
-    fn admit_players<
-        L: Ledgers + Send + Sync,
-        C: Clock + Sync,
-        G: Gate + Sync,
-        K: Sink + Sync,
-        D: Disk + Send,
-        B: Bell + Sync,
-    >(
+    fn admit_players<L: Ledgers + Send + Sync>(
         &self,
-        service: &Service<'_, L, C, G, K, D, B, R>,
+        service: &Serving<'_, '_, L, R>,
         listener: &mut Listener<'_, R>,
         bells: &Bells,
     ) -> Served<L> {
@@ -397,16 +381,9 @@ impl<
     }
 
     /// Serves the publishers who connect at `listener`. Returns the workers' passes, and the fault if they aren't all there.
-    fn admit_publishers<
-        L: Ledgers + Send + Sync,
-        C: Clock + Sync,
-        G: Gate + Sync,
-        K: Sink + Sync,
-        D: Disk + Send,
-        B: Bell + Sync,
-    >(
+    fn admit_publishers<L: Ledgers + Send + Sync>(
         &self,
-        service: &Service<'_, L, C, G, K, D, B, R>,
+        service: &Serving<'_, '_, L, R>,
         listener: &mut Listener<'_, R>,
     ) -> Served<L> {
         let (notes, workers) = (self.notes.as_ref(), self.workers.count);

@@ -3,7 +3,7 @@ use Rattle.std.proofs.Common.{◌≡◌, ◌∙◌, ◌∷◌, [], List, ap, len
 use Rattle.std.proofs.lemmas.Iterator.Adapters.{YieldsList-from_vec}
 use Rattle.std.proofs.lemmas.Iterator.Consumers.{YieldsList-end}
 use Rattle.std.specs.Vec.Iter.{into_iter_items, into_iter_len}
-use Rattle.llhls.proofs.words.texts.Goals as goal
+use Rattle.ll_run.proofs.words.texts.Goals as goal
 
 all-of : {A : Type 0} (xs : List A) → xs ≡ map (λ y. y) xs
 all-of [] = refl

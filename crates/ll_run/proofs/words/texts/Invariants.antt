@@ -1,6 +1,6 @@
 -- The words so far are those that were given.
 use Rattle.std.proofs.Common.{◌≡◌, map, string_bytes}
-use Rattle.llhls.proofs.words.texts.Given as goal
+use Rattle.ll_run.proofs.words.texts.Given as goal
 
 abbrev pub invariant-loop-arg : goal.invariant-loop-arg
 invariant-loop-arg l = l.words.items ≡ map string_bytes l.yielded

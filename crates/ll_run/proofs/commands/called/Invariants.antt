@@ -1,5 +1,5 @@
 -- The ledgers of the counts are those of the blanks.
-use Rattle.llhls.proofs.called.Given as goal
+use Rattle.ll_run.proofs.commands.called.Given as goal
 
 abbrev pub ghosts-replay-L-Ledger : goal.ghosts-replay-L-Ledger
 ghosts-replay-L-Ledger a = record { name = a.reads.name; parts = a.reads.parts }

@@ -1,5 +1,5 @@
 //! The Multivariant Playlist of the channel with the record in a file.
-use crate::read_file;
+use crate::commands::read_file;
 use ll_attr::{Text, cut};
 use ll_command::{Fault, write_multivariant};
 use ll_multivariant::Source;

@@ -68,7 +68,7 @@ pub(crate) fn publish<L: Ledger, M: Ledger>(
 
 /// Publishes what an encoder writes to `input`, its bytes and whether standard error is a terminal, at the origins of `job`. Each blank has
 /// two parts, one for each count.
-pub(crate) fn publish_job<
+pub fn publish_job<
     L: Ledger,
     M: Ledger,
     R: Net<Listener = TcpListener, Stream = TcpStream> + Eprint + Clock + Threads + Wait + Sync,

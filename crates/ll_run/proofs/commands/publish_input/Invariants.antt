@@ -1,5 +1,5 @@
 -- The ledgers of the reads and of the clock's readings are those of the blanks.
-use Rattle.llhls.proofs.publish_input.Given as goal
+use Rattle.ll_run.proofs.commands.publish_input.Given as goal
 
 abbrev pub ghosts-publish-L-Ledger : goal.ghosts-publish-L-Ledger
 ghosts-publish-L-Ledger a = record { name = a.reads.name; parts = a.reads.parts }

@@ -1,0 +1,202 @@
+//! Does what the program is called to do, but for what needs threads.
+ghost use Rattle.std.specs.Prelude.{◌≡◌, IfErr};
+ghost use Rattle.ll_replay.specs.declared.outcome.RunFault.{RunFault};
+
+use crate::multivariant::multivariant;
+use crate::push::publish;
+use crate::words::words;
+use ll_attr::Text;
+use ll_command::{
+    Command, Fault, Plan, fault_of, run_script, secret_line, write_applied, write_checked,
+    write_explained, write_summary, write_upgraded, write_version,
+};
+use ll_device::{CountedReader, CountedWriter};
+use ll_origins::Job;
+use ll_push::Ending as Published;
+use ll_socket::Address;
+use std::alloc::Global;
+use std::fs::File;
+use std::marker::Brand;
+use std::sync::ledger::{Blank, Ledger};
+use std::{fs, io};
+
+/// The most origins at which a stream is published.
+const ORIGINS: usize = 4;
+
+/// How a command ended, or what is left of it for `main` to do.
+pub enum Ending {
+    Done,
+    /// A record isn't right: how is written to standard output.
+    BadRecord,
+    /// An origin refused what was published, with this answer.
+    Refused(Text),
+    /// A server is to run with this settings file: only `main` has the handle that starts threads.
+    Serve(Vec<u8>),
+    /// What an encoder writes is to be published at several origins: only `main` has the handle that starts threads.
+    Push(Job),
+}
+
+/// Does what the program was called to do.
+pub fn called(rt: &HostRuntime) -> Result<Ending, Fault> {
+    let words = words(rt)?;
+    match Command::of(&words)? {
+        Command::Replay => {
+            replay::<Brand, Brand>(rt, Blank::new(2), Blank::new(2))?;
+            Ok(Ending::Done)
+        }
+        Command::Apply { base, delta } => apply(rt, base.as_str(), delta.as_str()),
+        Command::Check(record) => check::<Brand>(rt, record, Blank::new(2)),
+        Command::Upgrade(record) => upgrade(rt, record.as_str()),
+        Command::Summarize(record) => summarize(rt, record.as_str()),
+        Command::Explain { record, entry } => explain(rt, record.as_str(), entry),
+        Command::Multivariant { record, sources } => {
+            let right = multivariant(rt, record.as_str(), sources)?;
+            Ok(ending_of(right))
+        }
+        Command::Version => {
+            write_version(&mut rt.stdout())?;
+            Ok(Ending::Done)
+        }
+        Command::Serve(settings) => Ok(Ending::Serve(read_file(rt, settings.as_str())?)),
+        Command::Push {
+            address,
+            channel,
+            rendition,
+            plan,
+            secret,
+        } => publish_input(rt, job_of(rt, address, channel, rendition, plan, secret)?),
+    }
+}
+
+/// Writes the playlist that results from applying the delta update in the file `delta` to the one in the file `base`.
+fn apply(rt: &HostRuntime, base: &str, delta: &str) -> Result<Ending, Fault> {
+    let base = read_file(rt, base)?;
+    let delta = read_file(rt, delta)?;
+    write_applied(rt.alloc(), &base, &delta, &mut rt.stdout())?;
+    Ok(Ending::Done)
+}
+
+/// Writes how many entries the record in a file has, or how it isn't right. It reads the file in pieces.
+fn check<L: Ledger>(rt: &HostRuntime, path: &Text, reads: Blank) -> Result<Ending, Fault>
+    requires name { reads.name ≡ L.name }
+    requires parts { reads.parts ≡ L.parts }
+    requires two { reads.parts ≡ 2 }
+{
+    let file = match File::open(rt, path.as_str()) {
+        Ok(file) => file,
+        Err(error) => return Err(fault_of(error.kind(), Fault::Read)),
+    };
+    let mut record: CountedReader<File, L> = CountedReader::new(file, reads);
+    let right = write_checked(rt.alloc(), &mut record, &mut rt.stdout())?;
+    Ok(ending_of(right))
+}
+
+/// Writes the record in a file in format 2, or how it isn't right.
+fn upgrade(rt: &HostRuntime, path: &str) -> Result<Ending, Fault> {
+    let record = read_file(rt, path)?;
+    let right = write_upgraded(rt.alloc(), &record, &mut rt.stdout())?;
+    Ok(ending_of(right))
+}
+
+/// Writes a summary of the record in a file, or how it isn't right.
+fn summarize(rt: &HostRuntime, path: &str) -> Result<Ending, Fault> {
+    let record = read_file(rt, path)?;
+    let right = write_summary(rt.alloc(), &record, &mut rt.stdout())?;
+    Ok(ending_of(right))
+}
+
+/// Writes what happened at an entry of the record in a file, or how the record isn't right.
+fn explain(rt: &HostRuntime, path: &str, entry: u64) -> Result<Ending, Fault> {
+    let record = read_file(rt, path)?;
+    let right = write_explained(rt.alloc(), &record, entry, &mut rt.stdout())?;
+    Ok(ending_of(right))
+}
+
+/// Returns the ending for a record that is `right`, or isn't.
+fn ending_of(right: bool) -> Ending {
+    if right {
+        Ending::Done
+    } else {
+        Ending::BadRecord
+    }
+}
+
+/// Returns what is published, and where, according to the words of a push.
+fn job_of(
+    rt: &HostRuntime,
+    addresses: &Text,
+    channel: &Text,
+    rendition: &Text,
+    plan: Plan,
+    secret: Option<&str>,
+) -> Result<Job, Fault> {
+    let addresses = addresses_in(rt.alloc(), addresses.as_str())?;
+    let greeting = match secret {
+        Some(path) => {
+            let file = read_file(rt, path)?;
+            Some(secret_line(rt.alloc(), channel.as_str(), &file)?)
+        }
+        None => None,
+    };
+    Ok(Job {
+        addresses,
+        channel: channel.copy()?,
+        rendition: rendition.copy()?,
+        plan,
+        greeting,
+    })
+}
+
+/// Publishes what an encoder writes to standard input, or leaves that to `main` if there are several addresses.
+fn publish_input(rt: &HostRuntime, job: Job) -> Result<Ending, Fault> {
+    if job.addresses.len() > 1 {
+        return Ok(Ending::Push(job));
+    }
+    let Some(address) = job.addresses.first() else {
+        return Err(Fault::Usage);
+    };
+    match publish::<Brand, Brand>(rt, address, &job, Blank::new(2), Blank::new(2))? {
+        Published::Whole => Ok(Ending::Done),
+        Published::Refused(answer) => Ok(Ending::Refused(answer)),
+    }
+}
+
+/// Parses one or more addresses with commas between them, at most four, none twice. Others are wrong usage.
+fn addresses_in(alloc: Global, text: &str) -> Result<Vec<Address>, Fault> {
+    let mut addresses = Vec::new(alloc);
+    for word in text.split(',') {
+        let Some(address) = Address::parse(alloc, word)? else {
+            return Err(Fault::Usage);
+        };
+        if addresses.len() == ORIGINS || addresses.contains(&address) {
+            return Err(Fault::Usage);
+        }
+        if addresses.push(address).is_err() {
+            return Err(Fault::Memory);
+        }
+    }
+    Ok(addresses)
+}
+
+/// Runs the script on standard input, and writes its answers to standard output.
+fn replay<L: Ledger, M: Ledger>(rt: &HostRuntime, reads: Blank, writes: Blank) -> Result<(), Fault>
+    requires reads_name { reads.name ≡ L.name }
+    requires reads_parts { reads.parts ≡ L.parts }
+    requires reads_two { reads.parts ≡ 2 }
+    requires writes_name { writes.name ≡ M.name }
+    requires writes_parts { writes.parts ≡ M.parts }
+    requires writes_two { writes.parts ≡ 2 }
+    ensures { IfErr result (λ f. (fault : RunFault) × (f ≡ Fault.Replay fault)) }
+{
+    let mut source: CountedReader<io::Stdin, L> = CountedReader::new(rt.stdin(), reads);
+    let mut sink: CountedWriter<io::Stdout, M> = CountedWriter::new(rt.stdout(), writes);
+    run_script(rt.alloc(), &mut source, &mut sink)
+}
+
+/// Returns all bytes of a file.
+pub(crate) fn read_file(rt: &HostRuntime, path: &str) -> Result<Vec<u8>, Fault> {
+    match fs::read(rt, path) {
+        Ok(bytes) => Ok(bytes),
+        Err(error) => Err(fault_of(error.kind(), Fault::Read)),
+    }
+}

@@ -1,0 +1,11 @@
+//! What the program does when it is called, but for what needs threads.
+#![tactic(auto)]
+
+mod calendar;
+mod commands;
+mod multivariant;
+mod push;
+mod words;
+
+pub use commands::{Ending, called};
+pub use push::publish_job;
