@@ -15,7 +15,7 @@ use Rattle.ll_item.specs.Items.{blank}
 use Rattle.ll_settings.specs.Settings.{Configuration}
 use Rattle.ll_item.specs.Told.{Told}
 use Rattle.ll_item.specs.declared.item.Item.{Item}
-use Rattle.ll_page.specs.Page.{Paged}
+use Rattle.ll_pieces.specs.View.{Paged}
 use Rattle.ll_rendition.specs.Refusal.{first_refusal}
 use Rattle.ll_store.specs.Media.{media}
 use Rattle.ll_verdict.proofs.StateLemmas.{at_once-is, state-snoc}

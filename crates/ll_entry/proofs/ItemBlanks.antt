@@ -6,7 +6,7 @@ use Rattle.ll_item.specs.Told.{Told, start, step, told}
 use Rattle.ll_item.specs.declared.item.Item.{Item}
 use Rattle.ll_item.specs.declared.item.Item.TheVariants as item
 use Rattle.ll_item.specs.declared.part.Part.{Part}
-use Rattle.ll_page.specs.View.{renditions_from}
+use Rattle.ll_pieces.specs.View.{renditions_from}
 use Rattle.ll_range.specs.Announced as range
 use Rattle.ll_rendition.specs.Kept.{kept}
 use Rattle.ll_rendition.specs.Refusal.{rendition_refusal}

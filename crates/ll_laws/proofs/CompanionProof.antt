@@ -10,9 +10,10 @@ use Rattle.ll_window.specs.Rows.{Row, rows}
 use Rattle.ll_window.specs.Segments.{own, segments, open_segment, duration}
 use Rattle.ll_window.specs.Window.{window_limit, near_limit, window, listed, skipped_in}
 use Rattle.ll_line.specs.Playlist.{Playlist}
-use Rattle.ll_page.specs.Full.{printed, full_playlist, range_line, range_lines, sequence_of}
+use Rattle.ll_pieces.specs.Segments.{printed}
+use Rattle.ll_page.specs.Full.{full_playlist, range_line, range_lines, sequence_of}
 use Rattle.ll_page.specs.Delta.{ids_removed, ranges_left, update_of, delta_by}
-use Rattle.ll_page.specs.View.{Seen, seen, asked}
+use Rattle.ll_pieces.specs.View.{Seen, seen, asked}
 use Rattle.ll_item.specs.declared.skip_kind.SkipKind.{SkipKind}
 use Rattle.ll_item.specs.declared.skip_kind.SkipKind.TheVariants.{Yes, V2}
 use Rattle.ll_rendition.specs.Kept.{kept}

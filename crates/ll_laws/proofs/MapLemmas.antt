@@ -6,8 +6,8 @@ use Rattle.ll_window.specs.Rows.{begun, Row, rows, one_if, is_broken, lasting}
 use Rattle.ll_window.specs.Segments.{duration}
 use Rattle.ll_window.specs.Window.{window, listed, shown_by}
 use Rattle.ll_line.specs.Playlist.{Finished}
-use Rattle.ll_page.specs.Full.{finished_of, printed}
-use Rattle.ll_page.specs.Uris.{map_uri}
+use Rattle.ll_pieces.specs.Segments.{finished_of, printed}
+use Rattle.ll_line.specs.Uris.{map_uri}
 use Rattle.ll_apply.specs.Applied.{in_force, mapped, unless_broken, without_parts, with_map}
 
 -- each of these has the number of the map of the one before it, or of one more where it is broken

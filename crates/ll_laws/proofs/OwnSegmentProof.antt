@@ -17,7 +17,7 @@ use Rattle.ll_window.proofs.SkipLemmas.{skipped-none}
 use Rattle.ll_window.proofs.StepLemmas.{compact-snoc, duration-snoc}
 use Rattle.ll_line.specs.Playlist.{Skip}
 use Rattle.ll_page.specs.Delta.{delta_by}
-use Rattle.ll_page.specs.View.{Seen, seen, asked}
+use Rattle.ll_pieces.specs.View.{Seen, seen, asked}
 use Rattle.ll_item.specs.declared.skip_kind.SkipKind.{SkipKind}
 use Rattle.ll_laws.specs.Laws.{OwnSegmentLaw}
 use Rattle.ll_laws.specs.Published.{AreAccepted}

@@ -15,10 +15,11 @@ use Rattle.ll_window.specs.Rows.{Row, row}
 use Rattle.ll_window.specs.Segments.{own, duration}
 use Rattle.ll_line.specs.Line as line
 use Rattle.ll_line.specs.Line.{Report}
-use Rattle.ll_page.specs.Full.{part_lines, map_of, block_of, printed, open_of, report_by, reports_from, hint_by, hint_of}
+use Rattle.ll_pieces.specs.Segments.{part_lines, map_of, block_of, printed, open_of}
+use Rattle.ll_page.specs.Full.{report_by, reports_from, hint_by, hint_of}
 use Rattle.ll_line.specs.Spelling.{break_lines, map_lines, block_lines, segment_lines, open_lines, last_line}
 use Rattle.ll_line.specs.Uris.{segment_uri, part_uri, map_uri, report_uri}
-use Rattle.ll_page.specs.View.{renditions_from}
+use Rattle.ll_pieces.specs.View.{renditions_from}
 use Rattle.ll_read.specs.Readable.{Each, has_map, have_maps, IsReadableOpen}
 use Rattle.ll_read.specs.Reading.{is_empty}
 use Rattle.ll_laws.proofs.BoundLemmas.{IsPlaced}

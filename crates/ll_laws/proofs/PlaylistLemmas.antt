@@ -10,8 +10,9 @@ use Rattle.ll_window.specs.Segments.{own, segments, open_segment, duration}
 use Rattle.ll_window.specs.Window.{window_limit, near_limit, window, listed, shown_by}
 use Rattle.ll_window.proofs.WindowLemmas.{length_listed}
 use Rattle.ll_rendition.specs.declared.rendition.Rendition.{Rendition}
-use Rattle.ll_page.specs.Full.{printed, sequence_of}
-use Rattle.ll_page.specs.View.{renditions_from, at_place}
+use Rattle.ll_pieces.specs.Segments.{printed}
+use Rattle.ll_page.specs.Full.{sequence_of}
+use Rattle.ll_pieces.specs.View.{renditions_from, at_place}
 use Rattle.ll_rendition.specs.Kept.{kept}
 use Rattle.ll_laws.proofs.RowLemmas.{left, left-le, window-drop}
 

@@ -12,10 +12,11 @@ use Rattle.ll_window.specs.Compact.{compact, unfinished}
 use Rattle.ll_item.specs.Told.{end_time, Listed, told}
 use Rattle.ll_window.specs.Segments.{own}
 use Rattle.ll_rendition.specs.declared.rendition.Rendition.{Rendition}
-use Rattle.ll_page.specs.Full.{printed, open_of, sequence_of, hint_of, range_line, reports_from, playlist_of}
+use Rattle.ll_pieces.specs.Segments.{printed, open_of}
+use Rattle.ll_page.specs.Full.{sequence_of, hint_of, range_line, reports_from, playlist_of}
 use Rattle.ll_line.specs.Playlist.{Playlist}
 use Rattle.ll_line.specs.Spelling.{skip_lines, segment_lines, open_lines, last_line, lines_of, spelling}
-use Rattle.ll_page.specs.View.{renditions}
+use Rattle.ll_pieces.specs.View.{renditions}
 use Rattle.ll_rendition.specs.Kept.{kept}
 use Rattle.ll_read.specs.Readable.{Each, IsReadable, IsReadableOpen, leads, may_end}
 use Rattle.ll_laws.specs.Published.{ArePublished}

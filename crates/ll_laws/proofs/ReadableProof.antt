@@ -13,10 +13,11 @@ use Rattle.ll_window.specs.Segments.{own}
 use Rattle.ll_range.specs.Announced.{announced, is_recent, skipped_at}
 use Rattle.ll_rendition.specs.declared.rendition.Rendition.{Rendition}
 use Rattle.ll_page.specs.Delta.{ranges_left, ids_removed, skip_of, delta_by}
-use Rattle.ll_page.specs.Full.{printed, reports_of, playlist_of}
+use Rattle.ll_pieces.specs.Segments.{printed}
+use Rattle.ll_page.specs.Full.{reports_of, playlist_of}
 use Rattle.ll_line.specs.Playlist.{Playlist}
 use Rattle.ll_line.specs.Spelling.{skip_lines}
-use Rattle.ll_page.specs.View.{Seen, seen, asked}
+use Rattle.ll_pieces.specs.View.{Seen, seen, asked}
 use Rattle.ll_item.specs.declared.skip_kind.SkipKind.{SkipKind}
 use Rattle.ll_item.specs.declared.skip_kind.SkipKind.TheVariants.{Yes, V2}
 use Rattle.ll_rendition.specs.Kept.{kept}

@@ -3,7 +3,7 @@ use Rattle.std.proofs.Common.{◌≡◌, ℕ, suc, ◌+◌, ◌-◌, ◌≤◌, 
 use Rattle.std.proofs.lemmas.List.{take-map, drop-map}
 use Rattle.ll_window.specs.Rows.{Row}
 use Rattle.ll_window.specs.Window.{window, listed, skipped_in}
-use Rattle.ll_page.specs.Full.{finished_of, printed}
+use Rattle.ll_pieces.specs.Segments.{finished_of, printed}
 use Rattle.ll_apply.specs.Applied.{in_force, mapped, without_parts}
 use Rattle.ll_laws.proofs.MapLemmas.{AreCounted, led, counted-window, counted-listed, in_force-printed, in_force-after, mapped-led, without_parts-led}
 use Rattle.ll_laws.proofs.RowLemmas.{left, window-drop, skipped-within, skipped-bare, kept-rows}

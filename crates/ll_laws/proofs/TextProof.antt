@@ -4,7 +4,7 @@ use Rattle.ll_settings.specs.Settings.{Configuration}
 use Rattle.ll_item.specs.declared.item.Item.{Item}
 use Rattle.ll_page.specs.Delta.{delta_playlist}
 use Rattle.ll_page.specs.Full.{full_playlist}
-use Rattle.ll_page.specs.View.{seen}
+use Rattle.ll_pieces.specs.View.{seen}
 use Rattle.ll_item.specs.declared.skip_kind.SkipKind.{SkipKind}
 use Rattle.ll_item.specs.declared.skip_kind.SkipKind.TheVariants.{Yes, V2}
 use Rattle.ll_read.proofs.PlaylistBack.{reads-back}

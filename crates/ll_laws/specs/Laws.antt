@@ -7,7 +7,7 @@ use Rattle.ll_window.specs.Segments.{own}
 use Rattle.ll_page.specs.Delta.{delta_playlist, delta_text}
 use Rattle.ll_page.specs.Full.{full_playlist, full_text}
 use Rattle.ll_line.specs.Playlist.{Skip}
-use Rattle.ll_page.specs.View.{seen}
+use Rattle.ll_pieces.specs.View.{seen}
 use Rattle.ll_item.specs.declared.skip_kind.SkipKind.{SkipKind}
 use Rattle.ll_read.specs.Readable.{IsReadable}
 use Rattle.ll_apply.specs.Applied.{applied}

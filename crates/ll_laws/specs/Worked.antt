@@ -7,7 +7,7 @@ use Rattle.ll_item.specs.declared.item.Item.{Item}
 use Rattle.ll_item.specs.declared.item.Item.TheVariants as item
 use Rattle.ll_page.specs.Delta.{delta_text}
 use Rattle.ll_page.specs.Full.{text_after}
-use Rattle.ll_page.specs.View.{seen}
+use Rattle.ll_pieces.specs.View.{seen}
 use Rattle.ll_item.specs.declared.skip_kind.SkipKind.TheVariants.{Yes, V2}
 
 -- one rendition, a target duration of 4 s and a part target of 1 s

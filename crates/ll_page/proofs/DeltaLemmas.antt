@@ -6,10 +6,11 @@ use Rattle.ll_line.specs.Line.{DateRange, Skipped, RenditionReport}
 use Rattle.ll_line.specs.Text.{line_text, text_of}
 use Rattle.ll_page.specs.Delta.{delta_by, ids_removed, ranges_left}
 use Rattle.ll_item.specs.declared.skip_kind.SkipKind.{SkipKind}
-use Rattle.ll_page.specs.Full.{full_playlist, printed, range_line, open_of, reports_of, hint_of}
-use Rattle.ll_page.specs.Pieces.{PiecesOf, pieces_from}
+use Rattle.ll_page.specs.Full.{full_playlist, range_line, reports_of, hint_of}
+use Rattle.ll_pieces.specs.Segments.{printed, open_of}
+use Rattle.ll_pieces.specs.Pieces.{PiecesOf, pieces_from}
 use Rattle.ll_line.specs.Spelling.{spelling, head_lines, segment_lines, open_lines, last_line}
-use Rattle.ll_page.specs.View.{Seen, asked}
+use Rattle.ll_pieces.specs.View.{Seen, asked}
 use Rattle.ll_line.proofs.Texts.{spelling_texts}
 
 after : (n : ℕ) → (suc n == 0) ≡ false

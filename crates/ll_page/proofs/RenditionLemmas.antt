@@ -6,7 +6,7 @@ use Rattle.std.proofs.lemmas.List.Elements.{filter-append}
 use Rattle.ll_item.specs.Items.{rendition_of}
 use Rattle.ll_settings.specs.Settings.{Configuration}
 use Rattle.ll_item.specs.declared.item.Item.{Item}
-use Rattle.ll_page.specs.View.{renditions, renditions_from}
+use Rattle.ll_pieces.specs.View.{renditions, renditions_from}
 use Rattle.ll_rendition.specs.Kept.{kept}
 use Rattle.ll_rendition.specs.declared.rendition.Rendition.{Rendition}
 use Rattle.ll_window.specs.Segments.{own}

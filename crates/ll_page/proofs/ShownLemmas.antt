@@ -5,7 +5,7 @@ use Rattle.std.proofs.lemmas.Bool.Decides.{nat_tests}
 use Rattle.ll_item.specs.Items.{rendition_of}
 use Rattle.ll_settings.specs.Settings.{Configuration}
 use Rattle.ll_item.specs.declared.item.Item.{Item}
-use Rattle.ll_page.specs.View.{GoOn, renditions}
+use Rattle.ll_pieces.specs.View.{GoOn, renditions}
 use Rattle.ll_page.proofs.RenditionLemmas.{rendition-got, renditions-snoc}
 use Rattle.ll_rendition.specs.Kept.{kept}
 use Rattle.ll_rendition.specs.Refusal.{refusal_at}

@@ -7,8 +7,9 @@ use Rattle.ll_window.specs.Compact.{skip_count}
 use Rattle.ll_line.specs.Line.{Skip}
 use Rattle.ll_line.specs.Playlist.{Playlist}
 use Rattle.ll_line.specs.Spelling.{spelling}
-use Rattle.ll_page.specs.Full.{printed, range_line, full_playlist}
-use Rattle.ll_page.specs.View.{Seen, asked}
+use Rattle.ll_pieces.specs.Segments.{printed}
+use Rattle.ll_page.specs.Full.{range_line, full_playlist}
+use Rattle.ll_pieces.specs.View.{Seen, asked}
 use Rattle.ll_item.specs.declared.skip_kind.SkipKind.{SkipKind}
 use Rattle.ll_item.specs.declared.skip_kind.SkipKind.TheVariants.{Yes, V2}
 

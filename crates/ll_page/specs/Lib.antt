@@ -1,9 +1,6 @@
 pub mod Delta
 pub mod Full
 pub mod Page
-pub mod Piece
-pub mod Pieces
-pub mod View
 pub use Rattle.ll_line.specs.Formats
 pub use Rattle.ll_line.specs.Line
 pub use Rattle.ll_line.specs.Meaning
@@ -13,4 +10,3 @@ pub use Rattle.ll_window.specs.Compact
 pub use Rattle.ll_window.specs.Rows
 pub use Rattle.ll_range.specs.Announced
 pub use Rattle.ll_settings.specs.Settings
-pub use Rattle.ll_format.specs.Times

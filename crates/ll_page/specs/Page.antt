@@ -1,12 +1,11 @@
 -- The text of a page: a full playlist or a delta update at one moment of a channel.
-use Rattle.std.specs.Prelude.{ℕ, zero, suc, List, Option, Some, None}
+use Rattle.std.specs.Prelude.{ℕ, List, Option, Some, None}
 use Rattle.ll_settings.specs.Settings.{Configuration}
 use Rattle.ll_item.specs.declared.skip_kind.SkipKind.{SkipKind}
 use Rattle.ll_page.specs.Delta.{delta_text}
 use Rattle.ll_page.specs.Full.{full_text}
-use Rattle.ll_page.specs.View.{Seen, asked}
+use Rattle.ll_pieces.specs.View.{Paged, Seen}
 use Rattle.ll_rendition.specs.declared.rendition.Rendition.{Rendition}
-use Rattle.ll_window.specs.Compact.{skip_count}
 
 -- a channel at one moment: its settings and what is kept of its renditions
 pub record Moment : Type 0 where
@@ -19,11 +18,6 @@ pub record Moment : Type 0 where
 abbrev pub seen_of : Moment → ℕ → Seen
 seen_of m rendition = record { settings = m.settings; renditions = m.renditions; rendition = rendition; count = m.count }
 
--- a view, and the kind of delta update that is asked for, none for the full playlist
-pub record Paged : Type 0 where
-  pub seen : Seen
-  pub form : Option SkipKind
-
 -- the text of the delta update of this kind, or for none of the full playlist
 abbrev pub text_in : Option SkipKind → Seen → List ℕ
 text_in None v = full_text v
@@ -31,11 +25,3 @@ text_in (Some kind) v = delta_text kind v
 
 abbrev pub page_text : Paged → List ℕ
 page_text p = text_in p.form p.seen
-
-abbrev pub unless_none : ℕ → Option SkipKind → Option SkipKind
-unless_none zero form = None
-unless_none (suc n) form = form
-
--- The kind of delta update that the text is, none if it is a full playlist, also because an update was asked for and no segment is skipped.
-abbrev pub update_in : Paged → Option SkipKind
-update_in p = unless_none (skip_count (asked p.seen).window) p.form

@@ -1,13 +1,13 @@
 //! Pages: playlists that were written and are shared.
 ghost use Rattle.std.specs.Prelude.{◌≡◌, ◌<◌, ◌≤◌, IfOk, MatchOption, length};
 ghost use Rattle.std.specs.Arc.{arc_str_bytes};
-ghost use Rattle.ll_page.specs.Page.{page_text, seen_of, update_in};
+ghost use Rattle.ll_page.specs.Page.{page_text, seen_of};
+ghost use Rattle.ll_pieces.specs.View.{update_in};
 
-use crate::pieces::{Pieces, Rendered};
 use crate::playlist::written;
 use crate::shown::Shown;
-use crate::view::View;
 use ll_item::SkipKind;
+use ll_pieces::{Pieces, Rendered, View};
 use std::alloc::{AllocError, Global};
 use std::marker::Model;
 use std::sync::ArcStr;
@@ -35,7 +35,8 @@ impl Drop for Page {
 impl Model for Page {
     ghost use Rattle.std.specs.Prelude.{◌≡◌, ◌<◌, length};
     ghost use Rattle.std.specs.Arc.{arc_str_bytes};
-    ghost use Rattle.ll_page.specs.Page.{Paged, page_text, seen_of};
+    ghost use Rattle.ll_pieces.specs.View.{Paged};
+    ghost use Rattle.ll_page.specs.Page.{page_text, seen_of};
 
     ghost Value = { Paged };
 

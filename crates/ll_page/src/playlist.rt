@@ -2,18 +2,17 @@
 ghost use Rattle.std.specs.Prelude.{◌≡◌, ◌==◌, ◌++◌, IfOk, OnOk, drop, string_bytes, map};
 ghost use Rattle.ll_page.specs.Full.{full_text, full_playlist, header_of, report_by, reports_of, hint_of, sequence_of, range_line};
 ghost use Rattle.ll_page.specs.Delta.{delta_text, delta_by, ranges_left, ids_removed};
-ghost use Rattle.ll_page.specs.View.{asked};
+ghost use Rattle.ll_pieces.specs.View.{asked};
 ghost use Rattle.ll_page.specs.Page.{text_in};
-ghost use Rattle.ll_page.specs.Pieces.{pieces_from};
+ghost use Rattle.ll_pieces.specs.Pieces.{pieces_from};
 ghost use Rattle.ll_line.specs.Line as says;
 ghost use Rattle.ll_line.specs.Text.{line_text, text_of};
 ghost use Rattle.ll_line.specs.Spelling.{spelling, head_lines, header_lines, last_line};
 
-use crate::pieces::{Pieces, Rendered};
-use crate::view::View;
 use ll_attr::{Micros, Text};
 use ll_item::SkipKind;
 use ll_line::{Control, Line, Report, Uri, push_line, push_skip};
+use ll_pieces::{Pieces, Rendered, View};
 use ll_range::Ranges;
 use ll_settings::Settings;
 use ll_window::{PartPosition, Window};

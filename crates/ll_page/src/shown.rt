@@ -3,11 +3,11 @@ ghost use Rattle.std.specs.Prelude.{◌≡◌, ◌+◌, ◌<◌, ◌≤◌, ◌^
 ghost use Rattle.std.specs.Arc.{arc_value};
 ghost use Rattle.ll_item.specs.Items.{rendition_of};
 ghost use Rattle.ll_page.specs.Page.{seen_of};
-ghost use Rattle.ll_page.specs.View.{GoOn};
+ghost use Rattle.ll_pieces.specs.View.{GoOn};
 ghost use Rattle.ll_rendition.specs.Refusal.{refusal_at};
 
-use crate::view::View;
 use ll_item::Item;
+use ll_pieces::View;
 use ll_rendition::Rendition;
 use ll_settings::Settings;
 use std::alloc::{AllocError, Global};

@@ -1,6 +1,6 @@
 -- Of each rendition there are at most as many pieces as its playlist shows segments.
 use Rattle.std.proofs.Common.{◌≡◌, ℕ, zero, suc, ◌+◌, ◌-◌, ◌≤◌, ◌<◌, List, [], ◌∷◌, ◌++◌, Some, None, length, take, drop, slice_get, slice_set, length-drop, refl, ap, sym, subst, arith}
-use Rattle.ll_page.specs.Pieces.{PiecesOf}
+use Rattle.ll_pieces.specs.Pieces.{PiecesOf}
 use Rattle.ll_rendition.specs.declared.rendition.Rendition.{Rendition}
 use Rattle.ll_page_cache.specs.Stored.{AreFew}
 

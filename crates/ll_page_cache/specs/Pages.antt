@@ -1,6 +1,7 @@
 -- The pages of one rendition at one moment.
 use Rattle.std.specs.Prelude.{◌≡◌, ℕ, Option, Some, None}
-use Rattle.ll_page.specs.Page.{Moment, Paged, seen_of}
+use Rattle.ll_page.specs.Page.{Moment, seen_of}
+use Rattle.ll_pieces.specs.View.{Paged}
 use Rattle.ll_item.specs.declared.skip_kind.SkipKind.{SkipKind}
 
 pub record PagesOf : Type 0 where

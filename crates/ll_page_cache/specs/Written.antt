@@ -2,7 +2,7 @@
 use Rattle.std.specs.Prelude.{◌≡◌, ℕ, ◌==◌, List, [], ◌∷◌, Bool, false}
 use Rattle.std.specs.List.{All, list_any}
 use Rattle.ll_page.specs.Page.{Moment}
-use Rattle.ll_page.specs.Pieces.{PiecesOf}
+use Rattle.ll_pieces.specs.Pieces.{PiecesOf}
 use Rattle.ll_page_cache.specs.Pages.{PagesOf}
 
 -- the pages of each rendition that was asked for, and what was rendered of the segments of each rendition

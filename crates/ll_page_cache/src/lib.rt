@@ -4,6 +4,6 @@
 mod pages;
 mod written;
 
-pub use ll_page::Rendered;
+pub use ll_pieces::Rendered;
 pub use pages::Pages;
 pub use written::Written;

@@ -3,7 +3,8 @@ ghost use Rattle.std.specs.Prelude.{◌≡◌, ◌<◌, ◌≤◌, IfOk, MatchOp
 ghost use Rattle.ll_page_cache.specs.Pages.{Is, page_in};
 
 use ll_item::SkipKind;
-use ll_page::{Page, Pieces, Rendered, Shown};
+use ll_page::{Page, Shown};
+use ll_pieces::{Pieces, Rendered};
 use std::alloc::{AllocError, Global};
 use std::marker::Model;
 

@@ -6,7 +6,8 @@ ghost use Rattle.ll_page_cache.specs.Written.{AreWritten, is_of};
 
 use crate::pages::Pages;
 use ll_item::SkipKind;
-use ll_page::{Page, Pieces, Rendered, Rendition, Shown};
+use ll_page::{Page, Rendition, Shown};
+use ll_pieces::{Pieces, Rendered};
 use std::alloc::{AllocError, Global};
 use std::marker::Model;
 

@@ -6,4 +6,4 @@ pub mod Stream
 pub mod Worked
 pub mod Script
 pub use Rattle.ll_page.specs.Full
-pub use Rattle.ll_page.specs.View
+pub use Rattle.ll_pieces.specs.View

@@ -5,7 +5,7 @@ use Rattle.std.proofs.lemmas.Bool.Decides.{nat_tests}
 use Rattle.ll_item.specs.Items.{rendition_of}
 use Rattle.ll_settings.specs.Settings.{Configuration}
 use Rattle.ll_item.specs.declared.item.Item.{Item}
-use Rattle.ll_page.specs.View.{GoOn, renditions}
+use Rattle.ll_pieces.specs.View.{GoOn, Paged, renditions}
 use Rattle.ll_rendition.specs.declared.rendition.Rendition.{Rendition}
 use Rattle.ll_page.proofs.RenditionLemmas.{length-renditions, rendition-got}
 use Rattle.ll_window.specs.Compact.{compact}
@@ -20,7 +20,6 @@ use Rattle.ll_verdict.specs.Verdict.{media_of, media_or_none, page_of}
 use Rattle.ll_verdict.specs.declared.reply.Settled.TheVariants.{Text}
 use Rattle.ll_verdict.proofs.ListLemmas.{Each, each-map}
 use Rattle.ll_directive.specs.Files.{is_playlist}
-use Rattle.ll_page.specs.Page.{Paged}
 use Rattle.ll_verdict.specs.declared.entry.Slot.{Slot}
 use Rattle.ll_rendition.specs.declared.fault.PublishFault.{PublishFault}
 use Rattle.ll_rendition.specs.declared.fault.PublishFault.TheVariants.{NoRendition}

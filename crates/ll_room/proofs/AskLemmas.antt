@@ -6,7 +6,7 @@ use Rattle.std.proofs.lemmas.Bool.Decides.{nat_tests}
 use Rattle.ll_settings.specs.Settings.{Configuration}
 use Rattle.ll_item.specs.declared.item.Item.{Item}
 use Rattle.ll_directive.specs.Targets.{WantValue}
-use Rattle.ll_page.specs.Page.{Paged}
+use Rattle.ll_pieces.specs.View.{Paged}
 use Rattle.ll_rendition.specs.declared.rendition.Rendition.{Rendition}
 use Rattle.ll_page.proofs.RenditionLemmas.{length-renditions, rendition-got}
 use Rattle.ll_directive.specs.Files.{is_playlist}

@@ -13,7 +13,7 @@ use Rattle.ll_page_cache.proofs.WrittenLemmas.{none-written}
 use Rattle.std.proofs.lemmas.Bool.Decides.{nat_tests}
 use Rattle.ll_settings.proofs.WithinLimits.{within}
 use Rattle.ll_settings.specs.Settings.{Configuration, limit_broken}
-use Rattle.ll_page.specs.View.{renditions}
+use Rattle.ll_pieces.specs.View.{renditions}
 use Rattle.ll_page.proofs.RenditionLemmas.{length-renditions}
 use Rattle.ll_rendition.specs.declared.rendition.Rendition.{Rendition}
 use Rattle.ll_store.specs.Media.{StoreValue}

@@ -6,7 +6,7 @@ use Rattle.ll_item.specs.Items.{rendition_of}
 use Rattle.ll_settings.specs.Settings.{Configuration}
 use Rattle.ll_item.specs.declared.item.Item.{Item}
 use Rattle.ll_page.proofs.RenditionLemmas.{length-renditions, own-same, rendition-got}
-use Rattle.ll_page.specs.View.{GoOn, renditions}
+use Rattle.ll_pieces.specs.View.{GoOn, renditions}
 use Rattle.ll_rendition.specs.Kept.{kept}
 use Rattle.ll_book.specs.declared.release.Release.{Release}
 use Rattle.ll_rendition.specs.Refusal.{first_refusal, refusal_at, rendition_refusal}

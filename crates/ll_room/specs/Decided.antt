@@ -8,7 +8,8 @@ use Rattle.ll_verdict.specs.State.{waiting_in}
 use Rattle.ll_verdict.specs.Verdict.{at_once, held, piece_of, waiting_limit, wanted_of}
 use Rattle.ll_verdict.specs.declared.reply.Reply.{Reply}
 use Rattle.ll_verdict.specs.declared.reply.Reply.TheVariants as now
-use Rattle.ll_page.specs.Page.{Paged, seen_of}
+use Rattle.ll_pieces.specs.View.{Paged}
+use Rattle.ll_page.specs.Page.{seen_of}
 use Rattle.ll_verdict.specs.declared.wanted.Wanted.{Wanted}
 use Rattle.ll_room.specs.RoomValue.{RoomValue, Stands, moment}
 use Rattle.ll_room.specs.declared.decision.Decision.{Decision}

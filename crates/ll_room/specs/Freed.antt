@@ -3,7 +3,7 @@ use Rattle.std.specs.Prelude.{◌≡◌, ◌+◌, ◌++◌, List, [], ◌∷◌,
 use Rattle.ll_item.specs.Items.{rendition_of}
 use Rattle.ll_settings.specs.Settings.{Configuration}
 use Rattle.ll_item.specs.declared.item.Item.{Item}
-use Rattle.ll_page.specs.View.{renditions}
+use Rattle.ll_pieces.specs.View.{renditions}
 use Rattle.ll_store.specs.Media.{StoreValue}
 use Rattle.ll_store.specs.Stores.{stores}
 use Rattle.ll_rendition.specs.declared.rendition.Rendition.{Rendition}

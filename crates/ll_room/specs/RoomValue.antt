@@ -3,7 +3,7 @@ use Rattle.std.specs.Prelude.{◌≡◌, ℕ, List, [], ◌∷◌, Bool, false, 
 use Rattle.std.specs.List.{list_any}
 use Rattle.ll_settings.specs.Settings.{Configuration}
 use Rattle.ll_page.specs.Page.{Moment}
-use Rattle.ll_page.specs.View.{renditions}
+use Rattle.ll_pieces.specs.View.{renditions}
 use Rattle.ll_rendition.specs.declared.rendition.Rendition.{Rendition}
 use Rattle.ll_store.specs.Media.{StoreValue}
 use Rattle.ll_store.specs.Stores.{stores}

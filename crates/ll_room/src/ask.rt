@@ -1,7 +1,7 @@
 //! Requests: each gets a reply at once, or is held (blocking playlist reload, section 6.2.5.2).
 ghost use Rattle.std.specs.Prelude.{◌≡◌, ◌+◌, ◌<◌, ◌≤◌, ◌++◌, ◌∷◌, [], List, IfOk, IsErrOf, MatchOption, None, OnOk, OnErr, Some, false, is_some, length, option_map, true};
 ghost use Rattle.ll_directive.specs.Files.{is_playlist};
-ghost use Rattle.ll_page.specs.Page.{update_in};
+ghost use Rattle.ll_pieces.specs.View.{update_in};
 ghost use Rattle.ll_window.specs.Segments.{own};
 ghost use Rattle.ll_verdict.specs.Events.{Event, Ask, items};
 ghost use Rattle.ll_verdict.specs.Outcome.{outcome_of};

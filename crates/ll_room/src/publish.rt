@@ -3,7 +3,7 @@ ghost use Rattle.std.specs.Prelude.{◌≡◌, ◌≢◌, ◌+◌, ◌<◌, ◌+
 ghost use Rattle.ll_item.specs.Items.{rendition_of};
 ghost use Rattle.ll_item.specs.declared.item.Item.{Item};
 ghost use Rattle.ll_book.specs.Releases.{HasHolders, takes_any};
-ghost use Rattle.ll_page.specs.View.{GoOn};
+ghost use Rattle.ll_pieces.specs.View.{GoOn};
 ghost use Rattle.ll_verdict.specs.Events.{Event, Publish};
 ghost use Rattle.ll_room.specs.Freed.{AreApart, StoresGoOn, with_item, with_stores};
 ghost use Rattle.ll_room.specs.Coming.{IsComing, changed, pages_in, supply_in};

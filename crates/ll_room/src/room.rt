@@ -1,7 +1,7 @@
 //! What a room keeps of its channel, and what can be read of it.
 ghost use Rattle.std.specs.Prelude.{◌≡◌, ◌<◌, ◌≤◌, ◌^◌, ◌++◌, [], IfOk, List, MatchOption, filter, find, length, option_map};
 ghost use Rattle.std.specs.Arc.{arc_value};
-ghost use Rattle.ll_page.specs.View as view;
+ghost use Rattle.ll_pieces.specs.View as view;
 ghost use Rattle.ll_verdict.specs.Waiting as waiting;
 ghost use Rattle.ll_verdict.specs.State.{state_of};
 ghost use Rattle.ll_room.specs.Answers.{is_open};

@@ -11,7 +11,7 @@ use Rattle.ll_laws.specs.Published.{ArePublished, HasTexts}
 use Rattle.ll_laws.proofs.TextProof.{text}
 use Rattle.ll_page.specs.Delta.{delta_text}
 use Rattle.ll_page.specs.Full.{full_text}
-use Rattle.ll_page.specs.View.{seen}
+use Rattle.ll_pieces.specs.View.{seen}
 use Rattle.ll_range.specs.Announced as range
 use Rattle.ll_range.specs.Announced.{announced, is_listed, was_removed}
 use Rattle.ll_range.specs.Attributes.{is_id}

@@ -6,7 +6,7 @@ use Rattle.ll_directive.specs.Files.{is_playlist}
 use Rattle.ll_directive.specs.Targets.{WantValue}
 use Rattle.ll_settings.specs.Settings.{rendition_named, Configuration}
 use Rattle.ll_item.specs.declared.item.Item.{Item}
-use Rattle.ll_page.specs.Page.{Paged}
+use Rattle.ll_pieces.specs.View.{Paged}
 use Rattle.ll_verdict.specs.Events.{Event, Publish, Ask, Collect, Close, Clock, Step, asks, items, until}
 use Rattle.ll_verdict.specs.Verdict.{Request, at_once, closes, comes_after, decided, far, held, held_by, hold_by, is_busy, is_close, is_hinted, is_there, media_now, media_of, media_or, media_or_none, page_of, playlist_now, reply, reply_at_step, reply_by, reply_of, settles, waiting, wanted_at, wanted_of}
 use Rattle.ll_verdict.specs.declared.reply.Reply.{Reply}

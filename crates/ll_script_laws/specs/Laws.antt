@@ -5,8 +5,8 @@ use Rattle.ll_verdict.specs.Waiting.{IsRising, first_ready, is_ready, ticket_in}
 use Rattle.ll_directive.specs.Targets.{WantValue}
 use Rattle.ll_item.specs.Told.{end_time}
 use Rattle.ll_window.specs.Segments.{own}
-use Rattle.ll_page.specs.Page.{Paged, page_text}
-use Rattle.ll_page.specs.View.{seen}
+use Rattle.ll_pieces.specs.View.{Paged, seen}
+use Rattle.ll_page.specs.Page.{page_text}
 use Rattle.ll_item.specs.declared.skip_kind.SkipKind.{SkipKind}
 use Rattle.ll_script.specs.Lines.{acts}
 use Rattle.ll_script.specs.declared.act.Act.{Act}

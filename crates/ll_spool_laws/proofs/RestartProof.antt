@@ -9,7 +9,7 @@ use Rattle.ll_item.specs.declared.item.Item.{Item}
 use Rattle.ll_item.specs.declared.item.Item.TheVariants as item
 use Rattle.ll_item.specs.declared.what.What.{What}
 use Rattle.ll_page.specs.Page.{text_in}
-use Rattle.ll_page.specs.View.{renditions, seen}
+use Rattle.ll_pieces.specs.View.{renditions, seen}
 use Rattle.ll_rendition.specs.declared.rendition.Rendition.{Rendition}
 use Rattle.ll_settings.specs.Settings.{Configuration}
 use Rattle.ll_spool.specs.Restored.{IsRestored}

@@ -11,7 +11,7 @@ use Rattle.ll_item.specs.declared.item.Item.TheVariants.{Part, Init, Finish, Bre
 use Rattle.ll_item.specs.declared.skip_kind.SkipKind.{SkipKind}
 use Rattle.ll_item.specs.declared.what.What.{What}
 use Rattle.ll_page.specs.Page.{text_in}
-use Rattle.ll_page.specs.View.{seen}
+use Rattle.ll_pieces.specs.View.{seen}
 use Rattle.ll_settings.specs.Settings.{Configuration, limit_broken}
 use Rattle.ll_spool.specs.Restored.{IsRestored}
 use Rattle.ll_spool.specs.Spooled.{spool_in, spool_text}

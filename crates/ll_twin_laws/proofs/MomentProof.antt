@@ -4,7 +4,7 @@ use Rattle.std.proofs.lemmas.Bool.Decides.{nat_tests}
 use Rattle.std.proofs.lemmas.List.Sums.{fold-append}
 use Rattle.ll_item.specs.declared.item.Item.{Item}
 use Rattle.ll_page.specs.Page.{text_in}
-use Rattle.ll_page.specs.View.{seen}
+use Rattle.ll_pieces.specs.View.{seen}
 use Rattle.ll_settings.specs.Settings.{Configuration}
 use Rattle.ll_store.specs.Media.{media}
 use Rattle.ll_verdict.proofs.NewerLemmas.{folded-longer}

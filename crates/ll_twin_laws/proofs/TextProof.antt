@@ -7,9 +7,10 @@ use Rattle.ll_line.specs.Line.{DateRange, Line, Report, RenditionReport}
 use Rattle.ll_line.specs.Playlist.{Playlist}
 use Rattle.ll_line.specs.Spelling.{head_lines, last_line, lines_of, open_lines, segment_lines, skip_lines, spelling}
 use Rattle.ll_page.specs.Delta.{delta_by, ids_removed, ranges_left, skip_of}
-use Rattle.ll_page.specs.Full.{playlist_of, printed, range_line, report_by, reports_from, reports_of}
+use Rattle.ll_page.specs.Full.{playlist_of, range_line, report_by, reports_from, reports_of}
+use Rattle.ll_pieces.specs.Segments.{printed}
 use Rattle.ll_page.specs.Page.{text_in}
-use Rattle.ll_page.specs.View.{Seen, asked, at_place, renditions, renditions_from, seen}
+use Rattle.ll_pieces.specs.View.{Seen, asked, at_place, renditions, renditions_from, seen}
 use Rattle.ll_rendition.specs.Kept.{kept}
 use Rattle.ll_rendition.specs.declared.rendition.Rendition.{Rendition}
 use Rattle.ll_settings.specs.Settings.{Configuration}

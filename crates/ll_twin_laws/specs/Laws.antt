@@ -10,7 +10,7 @@ use Rattle.ll_line.specs.Text.{text_of}
 use Rattle.ll_page.specs.Delta.{delta_playlist}
 use Rattle.ll_page.specs.Full.{full_playlist}
 use Rattle.ll_page.specs.Page.{text_in}
-use Rattle.ll_page.specs.View.{Seen, renditions, seen}
+use Rattle.ll_pieces.specs.View.{Seen, renditions, seen}
 use Rattle.ll_rendition.specs.declared.rendition.Rendition.{Rendition}
 use Rattle.ll_settings.specs.Settings.{Configuration}
 use Rattle.ll_store.specs.Media.{media}

@@ -7,7 +7,7 @@ use Rattle.ll_item.specs.declared.item.Item.TheVariants as item
 use Rattle.ll_item.specs.declared.what.What.TheVariants as what
 use Rattle.ll_line.specs.Line.{Report}
 use Rattle.ll_page.specs.Full.{reports_of}
-use Rattle.ll_page.specs.View.{seen}
+use Rattle.ll_pieces.specs.View.{seen}
 use Rattle.ll_settings.specs.Settings.{Configuration}
 use Rattle.ll_store.specs.Media.{media}
 use Rattle.ll_verdict.specs.Events.{Event, Publish, Ask, Close, Clock, items}

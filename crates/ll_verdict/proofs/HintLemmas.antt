@@ -10,7 +10,7 @@ use Rattle.ll_settings.specs.Settings.{Configuration}
 use Rattle.ll_item.specs.Told.{told}
 use Rattle.ll_item.specs.declared.item.Item.{Item}
 use Rattle.ll_item.specs.declared.part.Part as part
-use Rattle.ll_page.specs.Page.{Paged}
+use Rattle.ll_pieces.specs.View.{Paged}
 use Rattle.ll_window.proofs.NumberLemmas.{by_places, laid}
 use Rattle.ll_window.specs.Numbers.{NumberedPart, numbered_parts, placed}
 use Rattle.ll_window.specs.Segments.{ended, finished_by, open_segment, own, parts, segments, split, unfinished_by}

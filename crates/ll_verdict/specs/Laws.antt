@@ -1,7 +1,7 @@
 -- Laws of every list of events and its requests.
 use Rattle.std.specs.Prelude.{◌≡◌, ℕ, ◌+◌, ◌<◌, ◌||◌, List, ◌++◌, true, None, Some, filter, length, not, slice_get}
 use Rattle.ll_settings.specs.Settings.{Configuration}
-use Rattle.ll_page.specs.Page.{Paged}
+use Rattle.ll_pieces.specs.View.{Paged}
 use Rattle.ll_verdict.specs.Events.{Event, Step, until, items}
 use Rattle.ll_verdict.specs.State.{state_of, is_waiting}
 use Rattle.ll_verdict.specs.Verdict.{Request, closes, decided, held, is_there, media_of, page_of, piece_of, reply, settles}

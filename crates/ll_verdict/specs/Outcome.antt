@@ -1,6 +1,6 @@
 -- A reply without the playlist or the bytes themselves.
 use Rattle.std.specs.Prelude.{length}
-use Rattle.ll_page.specs.Page.{update_in}
+use Rattle.ll_pieces.specs.View.{update_in}
 use Rattle.ll_verdict.specs.declared.reply.Outcome.{Outcome}
 use Rattle.ll_verdict.specs.declared.reply.Outcome.TheVariants as outcome
 use Rattle.ll_verdict.specs.declared.reply.Reply.{Reply}

@@ -2,7 +2,7 @@
 use Rattle.std.specs.Prelude.{ℕ, ◌+◌, ◌*◌, ◌==◌, ◌&&◌, ◌||◌, List, [], ◌∷◌, ◌++◌, Bool, true, false, not, Option, Some, None, is_none, nat_le, nat_lt, length, fold, filter, find, if◌then◌else◌, option_and_then, option_map}
 use Rattle.ll_settings.specs.Settings.{rendition_named, Configuration}
 use Rattle.ll_item.specs.declared.item.Item.{Item}
-use Rattle.ll_page.specs.View.{seen}
+use Rattle.ll_pieces.specs.View.{Paged, seen}
 use Rattle.ll_store.specs.Media.{media}
 use Rattle.ll_item.specs.declared.what.What.{What}
 use Rattle.ll_item.specs.declared.what.What.TheVariants as what
@@ -12,7 +12,6 @@ use Rattle.ll_directive.specs.Files.{is_playlist}
 use Rattle.ll_directive.specs.Targets.{WantValue, awaited_in}
 use Rattle.ll_directive.specs.declared.want.Awaited.{Awaited}
 use Rattle.ll_directive.specs.declared.want.Awaited.TheVariants.{Nothing, Segment, Part}
-use Rattle.ll_page.specs.Page.{Paged}
 use Rattle.ll_window.specs.Wants.{holds_segment, holds_part}
 use Rattle.ll_window.specs.Wants as wants
 use Rattle.ll_verdict.specs.declared.piece.MediaReply.{MediaReply}

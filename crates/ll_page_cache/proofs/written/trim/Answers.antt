@@ -1,7 +1,7 @@
 -- What is left at a place is as much as its rendition shows at most.
 use Rattle.std.proofs.Common.{ap, length, length-set, refl, subst, sym, ◌≤◌, ◌∙◌}
 use Rattle.std.proofs.lemmas.Option.{slice_get_read}
-use Rattle.ll_page.specs.Pieces.{PiecesOf}
+use Rattle.ll_pieces.specs.Pieces.{PiecesOf}
 use Rattle.ll_rendition.specs.declared.rendition.Rendition.{Rendition}
 use Rattle.ll_page_cache.proofs.StoredLemmas.{few-at, few-left}
 use Rattle.ll_page_cache.proofs.written.trim.Goals as goal

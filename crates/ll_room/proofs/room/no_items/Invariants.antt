@@ -1,7 +1,7 @@
 -- What is kept of each rendition is made in turn.
 use Rattle.std.proofs.Common.{◌≡◌, ◌++◌, [], drop}
 use Rattle.std.specs.Arc.{arc_value}
-use Rattle.ll_page.specs.View.{renditions, renditions_from}
+use Rattle.ll_pieces.specs.View.{renditions, renditions_from}
 use Rattle.ll_room.proofs.room.no_items.Given as goal
 
 -- those so far and those of the names that are left are all of them

@@ -1,7 +1,7 @@
 -- What was made is the room with the item.
 use Rattle.std.proofs.Common.{ap, ap₂, sym, subst, ◌∙◌}
 use Rattle.ll_item.specs.Items.{rendition_of}
-use Rattle.ll_page.specs.View.{GoOn}
+use Rattle.ll_pieces.specs.View.{GoOn}
 use Rattle.ll_room.proofs.AcceptLemmas.{first_none}
 use Rattle.ll_room.proofs.KeptLemmas.{few-events}
 use Rattle.ll_room.proofs.PublishLemmas.{apart, released-item}

@@ -1,7 +1,7 @@
 -- The releases take no request, so the open requests stay as they are.
 use Rattle.std.proofs.Common.{ap, ap₂, length, subst, sym, ◌∙◌}
 use Rattle.ll_item.specs.Items.{rendition_of}
-use Rattle.ll_page.specs.View.{GoOn}
+use Rattle.ll_pieces.specs.View.{GoOn}
 use Rattle.ll_store.specs.Stores.{all_kept, map_at, stores_with}
 use Rattle.ll_room.specs.Freed.{with_stores}
 use Rattle.ll_room.proofs.AcceptLemmas.{first_none}

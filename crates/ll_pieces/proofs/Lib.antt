@@ -1,0 +1,2 @@
+pub mod PieceLemmas
+pub mod PlaceLemmas

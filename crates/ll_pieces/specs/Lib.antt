@@ -1,0 +1,4 @@
+pub mod Piece
+pub mod Pieces
+pub mod Segments
+pub mod View
