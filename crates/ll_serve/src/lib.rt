@@ -7,6 +7,7 @@ mod player;
 mod players;
 mod poller;
 mod serve;
+mod talk;
 
 pub use bells::Bells;
 pub use links::serve_links;

@@ -61,10 +61,14 @@ pub fn serve_links<
         return Err((Vec::new(alloc), HubFault::Memory));
     };
     let passes = seats(service.rt, alloc, workers, service.hub)?;
-    let shift = Shift {
+    let server = Noting {
         service,
         notes,
         role,
+    };
+    let shift = Shift {
+        rt: service.rt,
+        server: &server,
         links: from,
         open: AtomicU64::new(0),
     };
@@ -114,18 +118,46 @@ fn one_more<L: Ledgers, R: Wait>(
     }
 }
 
-/// What the workers of a source share.
+/// What serves the connections of workers.
+trait Serves<L: Ledgers, P> {
+    /// Serves `link` to its end, with `pass`.
+    fn serve(&self, link: P, pass: &mut Pass<L>);
+}
+
+/// What serves connections of one role, and notes what becomes of them.
 #[derive(Drop)]
-struct Shift<'a, L: Ledgers, P: Drop, C, G, K, D, B, R> {
+struct Noting<'a, L: Ledgers, C, G, K, D, B, R> {
     service: &'a Service<'a, L, C, G, K, D, B, R>,
     notes: Option<&'a Notes<'a, R>>,
     role: Role,
+}
+
+impl<
+    L: Ledgers,
+    P: Link + Addressed,
+    C: Clock,
+    G: Gate,
+    K: Sink,
+    D: Disk,
+    B: Bell,
+    R: Wait + time::Clock,
+> Serves<L, P> for Noting<'_, L, C, G, K, D, B, R> {
+    fn serve(&self, link: P, pass: &mut Pass<L>) {
+        serve_counted::<L, Brand, P, C, G, K, D, B, R>(self, link, pass, Blank::new(2));
+    }
+}
+
+/// What the workers of a source share.
+#[derive(Drop)]
+struct Shift<'a, P: Drop, W, R> {
+    rt: &'a R,
+    server: &'a W,
     links: Receiver<P>,
     /// The number of connections that were handed out and aren't served to their end.
     open: AtomicU64,
 }
 
-impl<L: Ledgers, P: Link, C, G, K, D, B, R: Wait> Shift<'_, L, P, C, G, K, D, B, R> {
+impl<P: Link, W, R: Wait> Shift<'_, P, W, R> {
     /// Returns whether each of `started` workers has a connection to serve, or one that waits for it.
     fn is_busy(&self, started: u64) -> bool {
         self.open.load(Ordering::SeqCst) >= started
@@ -137,7 +169,7 @@ impl<L: Ledgers, P: Link, C, G, K, D, B, R: Wait> Shift<'_, L, P, C, G, K, D, B,
             return;
         }
         self.open.fetch_add(1, Ordering::SeqCst);
-        if to.send(self.service.rt, link).is_err() {
+        if to.send(self.rt, link).is_err() {
             self.open.fetch_sub(1, Ordering::SeqCst);
         }
     }
@@ -146,20 +178,11 @@ impl<L: Ledgers, P: Link, C, G, K, D, B, R: Wait> Shift<'_, L, P, C, G, K, D, B,
 /// Serves the connections of `source` by at most one worker for each pass of `given`, and returns the passes.
 fn share_out<
     L: Ledgers + Send + Sync,
-    P: Link + Addressed + Send,
+    P: Link + Send,
     S: Source<Peer = P>,
-    C: Clock + Sync,
-    G: Gate + Sync,
-    K: Sink + Sync,
-    D: Disk + Send,
-    B: Bell + Sync,
-    R: Threads + Wait + time::Clock + Sync,
->(
-    shift: &Shift<'_, L, P, C, G, K, D, B, R>,
-    to: Sender<P>,
-    source: &mut S,
-    given: Vec<Pass<L>>,
-) -> Vec<Pass<L>>
+    W: Serves<L, P> + Sync,
+    R: Threads + Wait + Sync,
+>(shift: &Shift<'_, P, W, R>, to: Sender<P>, source: &mut S, given: Vec<Pass<L>>) -> Vec<Pass<L>>
     ensures { length result.items ≡ length given.items }
 {
     let mut passes = given;
@@ -174,16 +197,12 @@ fn share_out<
 /// have ended.
 fn feed<
     L: Ledgers + Send + Sync,
-    P: Link + Addressed + Send,
+    P: Link + Send,
     S: Source<Peer = P>,
-    C: Clock + Sync,
-    G: Gate + Sync,
-    K: Sink + Sync,
-    D: Disk + Send,
-    B: Bell + Sync,
-    R: Threads + Wait + time::Clock + Sync,
+    W: Serves<L, P> + Sync,
+    R: Threads + Wait + Sync,
 >(
-    shift: &Shift<'_, L, P, C, G, K, D, B, R>,
+    shift: &Shift<'_, P, W, R>,
     to: Sender<P>,
     source: &mut S,
     seats: &Mutex<IterMut<'_, Pass<L>>>,
@@ -191,13 +210,13 @@ fn feed<
 ) {
     thread::scope(
         thread::scope_env(),
-        shift.service.rt,
+        shift.rt,
         |scope|
-            requires { IsSync R.row × IsSync C.row × IsSync G.row × IsSync K.row × IsSync B.row × IsSync L.row × IsSend L.row × IsSend P.row }
+            requires { IsSync R.row × IsSync W.row × IsSync L.row × IsSend L.row × IsSend P.row }
         {
             let to = to;
             let mut started = 0;
-            for _ in shift.service.rt.forever() {
+            for _ in shift.rt.forever() {
                 let Some(link) = source.next() else {
                     return;
                 };
@@ -214,25 +233,19 @@ fn feed<
 
 /// Takes a pass, and serves one connection after another, until no more come.
 // It takes its pass itself: one that was moved into the closure of a thread would be lost if the thread isn't started.
-fn work<
-    L: Ledgers,
-    P: Link + Addressed,
-    C: Clock,
-    G: Gate,
-    K: Sink,
-    D: Disk,
-    B: Bell,
-    R: Wait + time::Clock,
->(shift: &Shift<'_, L, P, C, G, K, D, B, R>, seats: &Mutex<IterMut<'_, Pass<L>>>) {
-    let seat = seats.lock(shift.service.rt).next();
+fn work<L: Ledgers, P: Link, W: Serves<L, P>, R: Wait>(
+    shift: &Shift<'_, P, W, R>,
+    seats: &Mutex<IterMut<'_, Pass<L>>>,
+) {
+    let seat = seats.lock(shift.rt).next();
     let Some(pass) = seat else {
         return;
     };
-    for _ in shift.service.rt.forever() {
-        let Ok(link) = shift.links.recv(shift.service.rt) else {
+    for _ in shift.rt.forever() {
+        let Ok(link) = shift.links.recv(shift.rt) else {
             return;
         };
-        serve_counted::<L, Brand, P, C, G, K, D, B, R>(shift, link, pass, Blank::new(2));
+        shift.server.serve(link, pass);
         shift.open.fetch_sub(1, Ordering::SeqCst);
     }
     unreachable!()
@@ -251,15 +264,15 @@ fn serve_counted<
     D: Disk,
     B: Bell,
     R: Wait + time::Clock,
->(shift: &Shift<'_, L, P, C, G, K, D, B, R>, link: P, pass: &mut Pass<L>, blank: Blank)
+>(noting: &Noting<'_, L, C, G, K, D, B, R>, link: P, pass: &mut Pass<L>, blank: Blank)
     requires name { blank.name ≡ M.name }
     requires parts { blank.parts ≡ M.parts }
     requires two { blank.parts ≡ 2 }
 {
-    let gate = NotedGate::new(shift.service.gate, shift.notes, link.remote());
-    let service = with_gate(shift.service, &gate);
+    let gate = NotedGate::new(noting.service.gate, noting.notes, link.remote());
+    let service = with_gate(noting.service, &gate);
     let mut counted: CountedLink<P, M> = CountedLink::new(link, blank);
-    let served = serve_link(&service, shift.role, &mut counted, pass);
+    let served = serve_link(&service, noting.role, &mut counted, pass);
     gate.ended(ending_of(&served));
 }
 

@@ -1,14 +1,8 @@
 //! A player of a poller: its connection, and what was reported of it.
-use ll_device::TryLink;
-use ll_hub::Ledgers;
-use ll_player::Connection;
-use ll_service::Gate;
-use std::sync::Wait;
-
 /// A player's connection in a poller.
 #[derive(Drop)]
-pub(crate) struct Player<'a, L: Ledgers, P: TryLink, G: Gate, R: Wait> {
-    pub(crate) connection: Connection<'a, L, P, G, R>,
+pub(crate) struct Player<T: Drop> {
+    pub(crate) connection: T,
     /// Its request that is held: the place of its channel, and its number there.
     pub(crate) held: Option<(usize, u64)>,
     /// Whether some of its answers are left to be sent.
@@ -21,12 +15,9 @@ pub(crate) struct Player<'a, L: Ledgers, P: TryLink, G: Gate, R: Wait> {
     pub(crate) since: u64,
 }
 
-impl<'a, L: Ledgers, P: TryLink, G: Gate, R: Wait> Player<'a, L, P, G, R> {
+impl<T: Drop> Player<T> {
     /// Returns the player at the other end of `connection`, which came in second `since`.
-    pub(crate) fn new(
-        connection: Connection<'a, L, P, G, R>,
-        since: u64,
-    ) -> Player<'a, L, P, G, R> {
+    pub(crate) fn new(connection: T, since: u64) -> Player<T> {
         Player {
             connection,
             held: None,

@@ -7,8 +7,10 @@ ghost use Rattle.ll_hub.specs.Passes.{new_pass};
 use crate::bells::{Bells, Watch};
 use crate::links::seats;
 use crate::poller::Poller;
+use crate::talk::{Served, Talk};
 use ll_device::{Source, TryLink};
-use ll_hub::{Bell, Clock, HubFault, Ledgers, Pass, Sink};
+use ll_hub::{Bell, Clock, Hub, HubFault, Ledgers, Pass, Sink};
+use ll_player::Connection;
 use ll_service::{Gate, Service};
 use std::alloc::{AllocError, Global};
 use std::slice::IterMut;
@@ -58,18 +60,21 @@ pub fn serve_players<
     };
     let passes = seats(rt, alloc, bells.len(), service.hub)?;
     let hall = Hall {
-        service,
+        rt,
+        alloc,
+        hub: service.hub,
         bells,
         inboxes,
         started: AtomicUsize::new(0),
         closed: AtomicBool::new(false),
         idle,
     };
-    Ok(share_out(&hall, source, passes))
+    let mut guests = Guests { service, source };
+    Ok(share_out(&hall, &mut guests, passes))
 }
 
 /// Returns `count` empty inboxes.
-fn inboxes_of<P: Drop>(alloc: Global, count: usize) -> Result<Vec<Mutex<Vec<P>>>, AllocError> {
+fn inboxes_of<T: Drop>(alloc: Global, count: usize) -> Result<Vec<Mutex<Vec<T>>>, AllocError> {
     let mut inboxes = Vec::new(alloc);
     for _ in 0..count {
         inboxes.push(Mutex::new(Vec::new(alloc)))?;
@@ -77,13 +82,40 @@ fn inboxes_of<P: Drop>(alloc: Global, count: usize) -> Result<Vec<Mutex<Vec<P>>>
     Ok(inboxes)
 }
 
+/// Where connections come from, one after another.
+trait Arrivals<T> {
+    /// Returns the next connection, or `None` if no more come.
+    fn next(&mut self) -> Option<T>;
+}
+
+/// The players of `source`, which `service` serves.
+#[derive(Drop)]
+struct Guests<'a, 's, L: Ledgers, S, C, G, K, D, B, R> {
+    service: &'a Service<'a, L, C, G, K, D, B, R>,
+    source: &'s mut S,
+}
+
+impl<'a, L: Ledgers, P: TryLink, S: Source<Peer = P>, C, G: Gate, K, D, B, R: Wait> Arrivals<
+    Served<'a, L, P, C, G, K, D, B, R>,
+> for Guests<'a, '_, L, S, C, G, K, D, B, R> {
+    fn next(&mut self) -> Option<Served<'a, L, P, C, G, K, D, B, R>> {
+        let link = self.source.next()?;
+        Some(Served {
+            service: self.service,
+            connection: Connection::new(self.service.alloc, link),
+        })
+    }
+}
+
 /// What the pollers share.
 #[derive(Drop)]
-struct Hall<'a, L: Ledgers, P: TryLink, C, G, K, D, B, R> {
-    service: &'a Service<'a, L, C, G, K, D, B, R>,
+struct Hall<'a, L: Ledgers, T: Drop, R> {
+    rt: &'a R,
+    alloc: Global,
+    hub: &'a Hub<L>,
     bells: &'a Bells,
     /// For each poller, the connections that it has not taken in yet.
-    inboxes: Vec<Mutex<Vec<P>>>,
+    inboxes: Vec<Mutex<Vec<T>>>,
     /// The number of pollers whose threads run.
     started: AtomicUsize,
     /// Whether no more connections come.
@@ -91,14 +123,14 @@ struct Hall<'a, L: Ledgers, P: TryLink, C, G, K, D, B, R> {
     idle: u64,
 }
 
-impl<L: Ledgers, P: TryLink, C, G, K, D, B, R: Wait> Hall<'_, L, P, C, G, K, D, B, R> {
-    /// Hands `link`, which came after `came` others, to one of the `started` pollers. Closes it if there is none, or if out of memory.
-    fn hand_over(&self, link: P, came: usize, started: usize) {
+impl<L: Ledgers, T: Drop, R: Wait> Hall<'_, L, T, R> {
+    /// Hands `connection`, which came after `came` others, to one of the `started` pollers. Closes it if there is none, or if out of memory.
+    fn hand_over(&self, connection: T, came: usize, started: usize) {
         let Some(number) = came.checked_rem(started) else {
             return;
         };
         if let (Some(inbox), Some(bell)) = (self.inboxes.get(number), self.bells.get(number)) {
-            let _ = inbox.lock(self.service.rt).push(link);
+            let _ = inbox.lock(self.rt).push(connection);
             bell.wake();
         }
     }
@@ -110,55 +142,40 @@ impl<L: Ledgers, P: TryLink, C, G, K, D, B, R: Wait> Hall<'_, L, P, C, G, K, D, 
     }
 }
 
-/// Serves the connections of `source` by a poller for each pass of `given`, and returns the passes.
+/// Serves the connections of `guests` by a poller for each pass of `given`, and returns the passes.
 fn share_out<
     L: Ledgers + Send + Sync,
-    P: TryLink + Send,
-    S: Source<Peer = P>,
-    C: Clock + Sync,
-    G: Gate + Sync,
-    K: Sink + Sync,
-    D: Send,
-    B: Bell + Sync,
+    T: Talk<L> + Send,
+    N: Arrivals<T>,
     R: Threads + Wait + time::Clock + Sync,
->(hall: &Hall<'_, L, P, C, G, K, D, B, R>, source: &mut S, given: Vec<Pass<L>>) -> Vec<Pass<L>>
+>(hall: &Hall<'_, L, T, R>, guests: &mut N, given: Vec<Pass<L>>) -> Vec<Pass<L>>
     ensures { length result.items ≡ length given.items }
 {
     let mut passes = given;
     let pollers = passes.len();
     let seats = Mutex::new(passes.iter_mut());
-    admit(hall, source, &seats, pollers);
+    admit(hall, guests, &seats, pollers);
     drop(seats);
     passes
 }
 
-/// Hands out the connections of `source`, and starts `pollers` pollers for them. Returns when all have ended.
+/// Hands out the connections of `guests`, and starts `pollers` pollers for them. Returns when all have ended.
 fn admit<
     L: Ledgers + Send + Sync,
-    P: TryLink + Send,
-    S: Source<Peer = P>,
-    C: Clock + Sync,
-    G: Gate + Sync,
-    K: Sink + Sync,
-    D: Send,
-    B: Bell + Sync,
+    T: Talk<L> + Send,
+    N: Arrivals<T>,
     R: Threads + Wait + time::Clock + Sync,
->(
-    hall: &Hall<'_, L, P, C, G, K, D, B, R>,
-    source: &mut S,
-    seats: &Mutex<IterMut<'_, Pass<L>>>,
-    pollers: usize,
-) {
-    let rt = hall.service.rt;
+>(hall: &Hall<'_, L, T, R>, guests: &mut N, seats: &Mutex<IterMut<'_, Pass<L>>>, pollers: usize) {
+    let rt = hall.rt;
     thread::scope(
         thread::scope_env(),
         rt,
         |scope|
-            requires { IsSync R.row × IsSync C.row × IsSync G.row × IsSync K.row × IsSync B.row × IsSync L.row × IsSend L.row × IsSend P.row }
+            requires { IsSync R.row × IsSync L.row × IsSend L.row × IsSend T.row }
         {
             let (mut started, mut came) = (0, 0);
             for _ in rt.forever() {
-                let Some(link) = source.next() else {
+                let Some(connection) = guests.next() else {
                     hall.close();
                     return;
                 };
@@ -168,7 +185,7 @@ fn admit<
                     }
                     started = started.saturating_add(1);
                 }
-                hall.hand_over(link, came, started);
+                hall.hand_over(connection, came, started);
                 came = came.wrapping_add(1);
             }
             unreachable!()
@@ -178,11 +195,11 @@ fn admit<
 
 /// Takes a pass and the next bell, and serves the connections that come to its poller.
 // It takes its pass itself: one that was moved into the closure of a thread would be lost if the thread isn't started.
-fn work<L: Ledgers, P: TryLink, C: Clock, G: Gate, K: Sink, D, B: Bell, R: Wait + time::Clock>(
-    hall: &Hall<'_, L, P, C, G, K, D, B, R>,
+fn work<L: Ledgers, T: Talk<L>, R: Wait + time::Clock>(
+    hall: &Hall<'_, L, T, R>,
     seats: &Mutex<IterMut<'_, Pass<L>>>,
 ) {
-    let rt = hall.service.rt;
+    let rt = hall.rt;
     let seat = seats.lock(rt).next();
     let Some(pass) = seat else {
         return;
@@ -194,6 +211,6 @@ fn work<L: Ledgers, P: TryLink, C: Clock, G: Gate, K: Sink, D, B: Bell, R: Wait 
     let Some(Watch { poll, mut events }) = bell.take_watch(rt) else {
         return;
     };
-    let mut poller = Poller::new(hall.service, bell, poll, hall.idle);
+    let mut poller = Poller::new(rt, hall.alloc, hall.hub, bell, poll, hall.idle);
     poller.run(pass, &mut events, inbox, &hall.closed);
 }

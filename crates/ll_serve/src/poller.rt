@@ -1,15 +1,15 @@
 //! A poller: one thread that serves many players, and waits for none of them.
 use crate::bells::{PollerBell, Watch};
 use crate::player::Player;
-use ll_device::TryLink;
-use ll_hub::{Bell, Clock, Ledgers, Pass, Sink};
-use ll_player::{Connection, Step};
-use ll_service::{Gate, LinkFault, Service};
+use crate::talk::Talk;
+use ll_hub::{Hub, Ledgers, Pass};
+use ll_player::Step;
+use ll_service::LinkFault;
 use mio::event::Event;
 use mio::unix::SourceFd;
 use mio::{Events, Interest, Poll, Token};
 use slab::Slab;
-use std::alloc::AllocError;
+use std::alloc::{AllocError, Global};
 use std::collections::{BTreeMap, VecDeque};
 use std::mem;
 use std::sync::atomic::{AtomicBool, Ordering};
@@ -21,12 +21,14 @@ const BATCH: usize = 64;
 
 /// The players of one thread, and what is to be done for them.
 #[derive(Drop)]
-pub(crate) struct Poller<'a, L: Ledgers, P: TryLink, C, G: Gate, K, D, B, R: Wait> {
-    service: &'a Service<'a, L, C, G, K, D, B, R>,
+pub(crate) struct Poller<'a, L: Ledgers, T: Drop, R> {
+    rt: &'a R,
+    alloc: Global,
+    hub: &'a Hub<L>,
     bell: &'a PollerBell,
     poll: Poll,
     /// The players, by their keys.
-    players: Slab<Player<'a, L, P, G, R>>,
+    players: Slab<Player<T>>,
     /// The keys of those whose requests are held, by the place of the channel and the request's number there.
     waiting: BTreeMap<(usize, u64), usize>,
     /// The keys of those that are to be read, though the system won't report it.
@@ -40,27 +42,21 @@ pub(crate) struct Poller<'a, L: Ledgers, P: TryLink, C, G: Gate, K, D, B, R: Wai
     seconds: u64,
 }
 
-impl<
-    'a,
-    L: Ledgers,
-    P: TryLink,
-    C: Clock,
-    G: Gate,
-    K: Sink,
-    D,
-    B: Bell,
-    R: Wait + time::Clock,
-> Poller<'a, L, P, C, G, K, D, B, R> {
-    /// Returns a poller without players, which `bell` wakes. It closes players that are idle for more than `idle` seconds.
+impl<'a, L: Ledgers, T: Talk<L>, R: Wait + time::Clock> Poller<'a, L, T, R> {
+    /// Returns a poller without players, which `bell` wakes, for requests of the channels of `hub`. It closes players that are idle for more
+    /// than `idle` seconds.
     pub(crate) fn new(
-        service: &'a Service<'a, L, C, G, K, D, B, R>,
+        rt: &'a R,
+        alloc: Global,
+        hub: &'a Hub<L>,
         bell: &'a PollerBell,
         poll: Poll,
         idle: u64,
-    ) -> Poller<'a, L, P, C, G, K, D, B, R> {
-        let alloc = service.alloc;
+    ) -> Poller<'a, L, T, R> {
         Poller {
-            service,
+            rt,
+            alloc,
+            hub,
             bell,
             poll,
             players: Slab::new(alloc),
@@ -68,7 +64,7 @@ impl<
             again: VecDeque::new(alloc),
             due: VecDeque::new(alloc),
             idle,
-            start: Instant::now(service.rt).ok(),
+            start: Instant::now(rt).ok(),
             seconds: 0,
         }
     }
@@ -78,10 +74,10 @@ impl<
         &mut self,
         pass: &mut Pass<L>,
         events: &mut Events,
-        inbox: &Mutex<Vec<P>>,
+        inbox: &Mutex<Vec<T>>,
         closed: &AtomicBool,
     ) {
-        for _ in self.service.rt.forever() {
+        for _ in self.rt.forever() {
             self.wait(events);
             self.bell.quiet();
             let over = closed.load(Ordering::SeqCst);
@@ -107,11 +103,9 @@ impl<
     }
 
     /// Takes in the connections that came into `inbox`. Closes those for which there is no memory, or that the system doesn't watch.
-    fn take_in(&mut self, inbox: &Mutex<Vec<P>>) {
-        let alloc = self.service.alloc;
-        let links = mem::replace(&mut *inbox.lock(self.service.rt), Vec::new(alloc));
-        for link in links {
-            let connection = Connection::new(alloc, link);
+    fn take_in(&mut self, inbox: &Mutex<Vec<T>>) {
+        let came = mem::replace(&mut *inbox.lock(self.rt), Vec::new(self.alloc));
+        for connection in came {
             let fd = connection.descriptor();
             let Ok(key) = self.players.insert(Player::new(connection, self.seconds)) else {
                 continue;
@@ -170,13 +164,13 @@ impl<
         };
         let mut step = Ok(Step::Idle);
         if player.unsent {
-            step = player.connection.writable(self.service, pass);
+            step = player.connection.writable(pass);
         } else if player.held.is_some() {
             return;
         }
         if step == Ok(Step::Idle) {
             player.came = false;
-            step = player.connection.readable(self.service, pass);
+            step = player.connection.readable(pass);
         }
         self.settle(key, step);
     }
@@ -230,7 +224,7 @@ impl<
         let Some((channel, after)) = self.due.pop_front() else {
             return;
         };
-        let mut tickets = Vec::new(self.service.alloc);
+        let mut tickets = Vec::new(self.alloc);
         let Ok(last) = self.next_waiting(channel, after, &mut tickets) else {
             self.bell.set_due(channel);
             return;
@@ -238,9 +232,7 @@ impl<
         let Some(last) = last else {
             return;
         };
-        self.service
-            .hub
-            .keep_ready(self.service.rt, channel, &mut tickets);
+        self.hub.keep_ready(self.rt, channel, &mut tickets);
         for ticket in tickets {
             self.answer(channel, ticket, pass);
         }
@@ -278,7 +270,7 @@ impl<
         };
         player.held = None;
         player.since = self.seconds;
-        let step = player.connection.ready(self.service, pass);
+        let step = player.connection.ready(pass);
         self.settle(key, step);
     }
 
@@ -297,7 +289,7 @@ impl<
         let Some(start) = self.start else {
             return;
         };
-        let Ok(time) = start.elapsed(self.service.rt) else {
+        let Ok(time) = start.elapsed(self.rt) else {
             return;
         };
         if time.as_secs() <= self.seconds {
