@@ -1,6 +1,6 @@
 //! Workers, each of which serves one connection at a time.
 ghost use denote.Param.Send.{IsSend, IsSync};
-ghost use Rattle.std.specs.Prelude.{◌≡◌, ◌<◌, ◌≤◌, ◌++◌, ◌∷◌, [], IfErr, IfOk, length};
+ghost use Rattle.std.specs.Prelude.{◌≡◌, ◌<◌, ◌≤◌, IfErr, IfOk, length};
 ghost use Rattle.std.specs.List.{All};
 ghost use Rattle.ll_hub.specs.Passes.{new_pass};
 
@@ -9,7 +9,7 @@ use crossbeam_channel::{Receiver, Sender};
 use ll_device::{CountedLink, Link, Role, Source};
 use ll_hub::{Bell, Clock, Hub, HubFault, Ledgers, Pass, Sink};
 use ll_notes::{Addressed, Ending, NotedGate, Notes};
-use ll_service::{Gate, LinkFault, Service};
+use ll_service::{Gate, LinkFault, Service, seats};
 use ll_spool::Disk;
 use std::alloc::Global;
 use std::marker::Brand;
@@ -73,49 +73,6 @@ pub fn serve_links<
         open: AtomicU64::new(0),
     };
     Ok(share_out(&shift, to, source, passes))
-}
-
-/// Takes `workers` passes of `hub`. If it fails, returns those that were taken, and why there is no other.
-pub(crate) fn seats<L: Ledgers, R: Wait>(
-    rt: &R,
-    alloc: Global,
-    workers: usize,
-    hub: &Hub<L>,
-) -> Result<Vec<Pass<L>>, (Vec<Pass<L>>, HubFault)>
-    ensures all { IfOk result (λ passes. length passes.items ≡ workers) }
-    ensures fewer { IfErr result (λ e. length e.0.items < workers) }
-    ensures untouched { IfErr result (λ e. All (λ p. p ≡ new_pass (length hub.now)) e.0.items) }
-{
-    let mut passes = Vec::new(alloc);
-    for _ in 0..workers {
-        match one_more(rt, passes, hub) {
-            Ok(more) => passes = more,
-            Err(failed) => return Err(failed),
-        }
-    }
-    Ok(passes)
-}
-
-/// Takes a pass of `hub`, and puts it after `passes`. If it fails, returns `passes` as they were, and the reason.
-fn one_more<L: Ledgers, R: Wait>(
-    rt: &R,
-    passes: Vec<Pass<L>>,
-    hub: &Hub<L>,
-) -> Result<Vec<Pass<L>>, (Vec<Pass<L>>, HubFault)>
-    ensures taken { IfOk result (λ more. more.items ≡ passes.items ++ new_pass (length hub.now) ∷ []) }
-    ensures same { IfErr result (λ e. e.0.items ≡ passes.items) }
-{
-    let mut passes = passes;
-    if passes.reserve(1).is_err() {
-        return Err((passes, HubFault::Memory));
-    }
-    match hub.seat(rt) {
-        Ok(pass) => {
-            passes.push_reserved(pass);
-            Ok(passes)
-        }
-        Err(fault) => Err((passes, fault)),
-    }
 }
 
 /// What serves the connections of workers.

@@ -5,13 +5,12 @@ ghost use Rattle.std.specs.List.{All};
 ghost use Rattle.ll_hub.specs.Passes.{new_pass};
 
 use crate::bells::{Bells, Watch};
-use crate::links::seats;
 use crate::poller::Poller;
 use crate::talk::{Served, Talk};
 use ll_device::{Source, TryLink};
 use ll_hub::{Bell, Clock, Hub, HubFault, Ledgers, Pass, Sink};
 use ll_player::Connection;
-use ll_service::{Gate, Service};
+use ll_service::{Gate, Service, seats};
 use std::alloc::{AllocError, Global};
 use std::slice::IterMut;
 use std::sync::atomic::{AtomicBool, AtomicUsize, Ordering};
