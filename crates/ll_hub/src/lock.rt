@@ -168,6 +168,38 @@ impl<L: Ledgers> ChannelLock<L> {
         }
     }
 
+    /// Looks for the reply to the held request `entry`, under the lock `state`. Returns the lock if the reply isn't there yet; otherwise
+    /// releases it, and fails with the reply, or with why there is none. Wakes another waiter, if it is to.
+    fn look<'a, R: Wait>(
+        &'a self,
+        rt: &R,
+        mut state: MutexGuard<'a, CountedChannel<L>>,
+        known: Known<'_>,
+        entry: Entry,
+        past: &mut Past<L>,
+        woken: &mut u64,
+    ) -> Result<MutexGuard<'a, CountedChannel<L>>, Result<Stamped<Reply>, HubFault>>
+        ensures still { OnOk result (past.new ≡ past.old) }
+        ensures replied { IfErr result (λ told. IfOk told (λ r. (r.room ≡ known.entry.place) × (r.stamp ≡ stamp.Collect entry.ticket))) }
+        ensures decided { IfErr result (λ told. IfOk told (λ r. has.HasDecided past.old past.new known.entry.place known.entry.settings.now entry r.value)) }
+        ensures stranger { IfErr result (λ told. IfErr told (λ f. (f ≡ HubFault.Stranger) × has.HasNone past.old past.new known.entry.place known.entry.settings.now entry)) }
+    {
+        let tried = state.collect(rt, known, entry, past);
+        let wakes = self.wakes_another(&state, woken);
+        let told = match tried {
+            Tried::Got(reply) => Ok(reply),
+            Tried::Stranger => Err(HubFault::Stranger),
+            Tried::Still => {
+                if wakes {
+                    self.changed.notify_one();
+                }
+                return Ok(state);
+            }
+        };
+        self.unlock(state, wakes);
+        Err(told)
+    }
+
     /// Waits for the reply to the held request `entry`.
     pub(crate) fn wait<R: Wait>(
         &self,
@@ -183,22 +215,10 @@ impl<L: Ledgers> ChannelLock<L> {
         let mut state = self.lock(rt);
         let mut woken = self.releases.load(Ordering::SeqCst);
         for _ in rt.forever() {
-            let tried = state.collect(rt, known, entry, past);
-            let wakes = self.wakes_another(&state, &mut woken);
-            match tried {
-                Tried::Got(reply) => {
-                    self.unlock(state, wakes);
-                    return Ok(reply);
-                }
-                Tried::Stranger => {
-                    self.unlock(state, wakes);
-                    return Err(HubFault::Stranger);
-                }
-                Tried::Still => {}
-            }
-            if wakes {
-                self.changed.notify_one();
-            }
+            state = match self.look(rt, state, known, entry, past, &mut woken) {
+                Ok(state) => state,
+                Err(told) => return told,
+            };
             self.waiters.fetch_add(1, Ordering::SeqCst);
             state = self.changed.wait(rt, state);
             self.waiters.fetch_sub(1, Ordering::SeqCst);
@@ -223,22 +243,11 @@ impl<L: Ledgers> ChannelLock<L> {
         let mut state = self.lock(rt);
         let mut woken = self.releases.load(Ordering::SeqCst);
         for _ in rt.forever() {
-            let tried = state.collect(rt, known, entry, past);
-            let wakes = self.wakes_another(&state, &mut woken);
-            match tried {
-                Tried::Got(reply) => {
-                    self.unlock(state, wakes);
-                    return Ok(Some(reply));
-                }
-                Tried::Stranger => {
-                    self.unlock(state, wakes);
-                    return Err(HubFault::Stranger);
-                }
-                Tried::Still => {}
-            }
-            if wakes {
-                self.changed.notify_one();
-            }
+            state = match self.look(rt, state, known, entry, past, &mut woken) {
+                Ok(state) => state,
+                Err(Ok(reply)) => return Ok(Some(reply)),
+                Err(Err(fault)) => return Err(fault),
+            };
             let Some(left) = left(rt, start, limit) else {
                 return Ok(None);
             };
