@@ -70,7 +70,7 @@ echo "== rt ci"
     lanes=$((${RT_JOBS:-$(nproc)} + 1)) prove_ahead "$room" crates.txt > >(news) 2>&1
     rt ci 2>&1 | tee "$room/proofs" | news
     echo "${PIPESTATUS[0]}" >"$room/proofs.status"
-} </dev/null > >(tell "$(grep -c '^[a-z]' crates.txt)" "$room"/{ahead,beside} "$root") &
+} </dev/null > >(tell "$(grep -c '^[a-z]' crates.txt)" "$room"/{low,ahead,beside} "$root") &
 proofs=$!
 # The program is tested as soon as it is proved, since the last proofs leave processors idle.
 until grep -Eqs '^rt: llhls (proved$|is kept: )' "$room/proofs" || [ -e "$room/proofs.status" ]; do

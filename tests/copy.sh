@@ -39,37 +39,76 @@ keeps() {
 # prove_ahead FOLDER FILE: proves in copies in FOLDER, ahead of an `rt ci` over all crates, which takes what is proved here. FILE, which has the form of
 # crates.txt, lists the crates. `lanes` is how many are proved side by side, or empty for as many as `rt ci` finds memory for.
 #
-# Most crates wait for one another in the longest chain of what stands on what. So what the fourth crate from that chain's end stands on, and this crate,
-# have a run of their own, which divides the processors among those of its crates that are ready. A niced run over all but the last three, which proves a
-# crate by one processor, takes what the first leaves idle; it may go on when this function returns. Each takes what the other has proved. The last
-# three are left to `rt ci`, which has most processors for them.
+# Most crates wait for one another in the longest chain of what stands on what. So what its last crate but one stands on, and this crate, have a run of
+# their own, which divides the processors among those of its crates that are ready. A niced run, which proves a crate by one processor, takes what the
+# first leaves idle; it leaves the chain's last five to that one, and may go on when this function returns. Each takes what the other has proved. A run
+# takes a minute to begin: so a third proves the lowest crates meanwhile, and this function returns when the first is at its last crate.
 prove_ahead() {
-    local fourth last
+    local fifth second
     # If the kit keeps nothing, each run would prove all.
     keeps "$1/tiny" || return 0
-    read -r fourth last < <(longest_chain <"$2")
-    copy_crates "$1/beside" $(grep -o '^[a-z_]*' "$2" | grep -vFx "$(tr ' ' '\n' <<<"$last")")
+    read -r fifth second < <(longest_chain <"$2")
+    copy_crates "$1/low" $(lowest <"$2")
+    (cd "$1/low" && RT_JOBS=${lanes-} rt ci) &
+    copy_crates "$1/beside" $(not_above "$fifth" <"$2")
     (cd "$1/beside" && RT_JOBS=${lanes-} nice -n 4 rt ci) &
-    copy_crates "$1/ahead" "$fourth"
-    (cd "$1/ahead" && rt ci)
+    copy_crates "$1/ahead" "$second"
+    : >"$1/ahead.said"
+    (cd "$1/ahead" && rt ci | tee "$1/ahead.said") &
+    until [ "$(proved <"$1/ahead.said")" -ge $(($(wc -l <"$1/ahead/crates.txt") - 1)) ]; do
+        kill -0 $! 2>/dev/null || break
+        sleep 1
+    done
 }
 
-# longest_chain: reads lines of crates.txt on standard input, and prints the last four of the longest chain of crates that stand on one another.
+# proved: reads what `rt ci` prints on standard input, and prints how many crates are proved.
+proved() {
+    awk '/^rt: [a-z_]+ (proved$|is kept: )/ && !seen[$2]++ { count++ } END { print count + 0 }'
+}
+
+# longest_chain: reads lines of crates.txt on standard input, and prints two crates of the longest chain of those that stand on one another: the fifth and
+# the second from its end.
 longest_chain() {
+    heights | awk '
+        $1 > most { most = $1; last = $2 }
+        { below[$2] = $3 }
+        END { second = below[last]; print below[below[below[second]]], second }'
+}
+
+# lowest: reads lines of crates.txt on standard input, and prints the crates that stand on none, or on such crates alone.
+lowest() {
+    heights | awk '$1 <= 2 { print $2 }'
+}
+
+# heights: reads lines of crates.txt on standard input. Prints for each crate how many are in the longest chain that ends with it, its name, and the one
+# before it in that chain.
+heights() {
     awk -F ': *' '
         { sub(/ *#.*/, "") }
         $1 == "" { next }
         {
             high[$1] = 1
+            below = "-"
             many = split($2, list, " ")
             for (at = 1; at <= many; at++)
                 if (high[list[at]] >= high[$1]) {
                     high[$1] = high[list[at]] + 1
-                    below[$1] = list[at]
+                    below = list[at]
                 }
-            if (high[$1] > high[last]) last = $1
-        }
-        END { print below[below[below[last]]], below[below[last]], below[last], last }'
+            print high[$1], $1, below
+        }'
+}
+
+# not_above NAME: reads lines of crates.txt on standard input, and prints the crates but for this one and those that stand on it.
+not_above() {
+    awk -v name="$1" -F '[: ]+' '
+        { sub(/ *#.*/, "") }
+        $1 == "" { next }
+        {
+            above[$1] = $1 == name
+            for (at = 2; at <= NF; at++) above[$1] += above[$at]
+            if (!above[$1]) print $1
+        }'
 }
 
 # news: passes on those lines of what `rt ci` prints that `tell` reads, each whole.

@@ -1,8 +1,8 @@
 -- What the files hold after each step of a spool.
-use Rattle.std.proofs.Common.{◌≡◌, ◌≢◌, ◌⊎◌, inl, inr, ◌<◌, ◌+◌, ℕ, zero, suc, List, [], ◌∷◌, ◌++◌, Option, Some, None, Result, Ok, Err, OnOk, refl, ap, sym, subst, ◌∙◌, length, length-append, append_assoc, append-nil, take, drop, set, slice_get, get_or, arith}
+use Rattle.std.proofs.Common.{◌≡◌, ◌≢◌, inl, inr, ◌<◌, ◌+◌, ℕ, zero, suc, List, [], ◌∷◌, ◌++◌, Option, Some, None, Result, Ok, Err, OnOk, refl, ap, sym, subst, ◌∙◌, length, append_assoc, append-nil, take, drop, set, slice_get, get_or, arith}
 use Rattle.std.proofs.Math.Seq.{drop-append_seam, take-append_seam}
 use Rattle.std.proofs.lemmas.Grind.{flat_map-append}
-use Rattle.ll_layout.specs.Held.{Each, Holds, IsAt, IsHeld, IsWithin, LayoutValue, file_by, other, sections_text, with_file}
+use Rattle.ll_layout.specs.Held.{Each, Holds, IsAt, IsHeld, IsWithin, LayoutValue, other, sections_text, with_file}
 use Rattle.ll_layout.specs.declared.side.Side.{Side}
 use Rattle.ll_layout.specs.declared.side.Side.TheVariants.{A, B}
 use Rattle.ll_layout.specs.declared.stored.KeptPart.{KeptPart}

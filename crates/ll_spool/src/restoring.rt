@@ -1,6 +1,6 @@
 //! A start: the items of a spool are published again.
 ghost use Rattle.std.specs.Prelude.{◌≡◌, ◌<◌, ◌^◌, ◌∷◌, [], IfOk, IfSome, IsErrOf, List, OnOk, Option, length, ℕ};
-ghost use Rattle.ll_item.specs.Items.{blank};
+ghost use Rattle.ll_item.specs.Items.{blank, media_of};
 ghost use Rattle.ll_item.specs.declared.item.Item.{Item as ItemValue};
 ghost use Rattle.ll_spool.specs.Restored.{IsPublished, IsRestored, IsSpelledBy, accepted_after};
 ghost use Rattle.ll_spool.specs.Spooled.{items_from, lines_in};
@@ -40,9 +40,40 @@ pub fn restore<D: Disk, A: Accepts>(
     ensures files { IfOk result (λ r. r.0.disk ≡ disk) }
 {
     let own = settings.copy(alloc)?;
+    match publish_text(alloc, settings, text, &disk, channel) {
+        Ok(done) => {
+            let spool = Spool::new(alloc, own, disk, done.layouts, done.whole);
+            Ok((spool, done.count))
+        }
+        Err(fault) => Err(fault),
+    }
+}
+
+/// What is known of a spool once its items are published: where the bytes of each rendition are, how many bytes its whole lines have, and
+/// how many items it has.
+#[derive(Drop)]
+struct Done {
+    layouts: Vec<Layout>,
+    whole: u64,
+    count: u64,
+}
+
+/// Publishes the items of `text`, whose bytes are in `disk`.
+fn publish_text<D: Disk, A: Accepts>(
+    alloc: Global,
+    settings: &Settings,
+    text: &[u8],
+    disk: &D,
+    channel: &mut A,
+) -> Result<Done, RestoreFault>
+    ensures { IfOk result (λ d. IsRestored settings.now text.now (A.accepted channel.old) (A.accepted channel.new) d.count) }
+{
     let Some((first, lines)) = cut_line(text) else {
-        let layouts = begun(alloc, settings)?;
-        return Ok((Spool::new(alloc, own, disk, layouts, 0), 0));
+        return Ok(Done {
+            layouts: begun(alloc, settings)?,
+            whole: 0,
+            count: 0,
+        });
     };
     let line = settings_text(alloc, settings)?;
     if first != line.as_bytes() {
@@ -50,9 +81,13 @@ pub fn restore<D: Disk, A: Accepts>(
     }
     let layouts = survey(alloc, settings, lines)?;
     let stored = stored_in(alloc, &layouts)?;
-    let (count, rest) = publish(alloc, settings, lines, &stored, &disk, channel)?;
+    let (count, rest) = publish(alloc, settings, lines, &stored, disk, channel)?;
     let whole = text.len().saturating_sub(rest) as u64;
-    Ok((Spool::new(alloc, own, disk, layouts, whole), count))
+    Ok(Done {
+        layouts,
+        whole,
+        count,
+    })
 }
 
 /// Returns the layouts of the renditions of a channel without items.
@@ -68,12 +103,38 @@ fn begun(alloc: Global, settings: &Settings) -> Result<Vec<Layout>, AllocError> 
 /// Returns where the bytes of each rendition are after the items of `text`.
 fn survey(alloc: Global, settings: &Settings, text: &[u8]) -> Result<Vec<Layout>, RestoreFault> {
     let mut layouts = begun(alloc, settings)?;
+    match follow_all(&mut layouts, alloc, settings, text) {
+        Ok(()) => Ok(layouts),
+        Err(fault) => Err(fault),
+    }
+}
+
+/// Adds the items of `text`, all of their channel, to the layouts of its renditions.
+fn follow_all(
+    layouts: &mut Vec<Layout>,
+    alloc: Global,
+    settings: &Settings,
+    text: &[u8],
+) -> Result<(), RestoreFault> {
     let mut lines = Lines::of(text);
     while let Some((count, line)) = lines.next() {
-        let item = read_line(alloc, settings, count, line)?;
-        added(count, follow(&mut layouts, count, &item))?;
+        follow_line(layouts, alloc, settings, count, line)?;
     }
-    Ok(layouts)
+    Ok(())
+}
+
+/// Parses `line` as that of the item of the number `count`, and adds this to the layout of its rendition.
+fn follow_line(
+    layouts: &mut Vec<Layout>,
+    alloc: Global,
+    settings: &Settings,
+    count: u64,
+    line: &[u8],
+) -> Result<(), RestoreFault>
+    requires few { count < 2 ^ 63 }
+{
+    let item = read_line(alloc, settings, count, line)?;
+    added(count, follow(layouts, count, &item))
 }
 
 /// Adds `item`, the channel's item of the number `count`, to the layout of its rendition.
@@ -160,7 +221,24 @@ fn with_bytes<D: Disk>(
     requires few { count < 2 ^ 63 }
     ensures same { IfOk result (λ filled. blank filled ≡ blank item) }
 {
-    if item_len(&item) != place.length {
+    match media_at(alloc, count, &item, place, disk) {
+        Ok(media) => Ok(filled(item, media)),
+        Err(fault) => Err(fault),
+    }
+}
+
+/// Returns the bytes at `place`, which are those of `item`, the item of the number `count`.
+fn media_at<D: Disk>(
+    alloc: Global,
+    count: u64,
+    item: &Item,
+    place: Place,
+    disk: &D,
+) -> Result<Media, RestoreFault>
+    requires few { count < 2 ^ 63 }
+    ensures long { IfOk result (λ media. length media ≡ length (media_of item.now)) }
+{
+    if item_len(item) != place.length {
         return Err(bad(count));
     }
     let mut bytes = vec![in alloc; 0; place.length as usize]?;
@@ -168,7 +246,7 @@ fn with_bytes<D: Disk>(
         return Err(bad(count));
     }
     match Payload::of_bytes(&bytes) {
-        Some(payload) => Ok(filled(item, Media::new(alloc, &payload)?)),
+        Some(payload) => Ok(Media::new(alloc, &payload)?),
         None => Err(bad(count)),
     }
 }

@@ -1,5 +1,5 @@
 -- The item's bytes stand at the end of the current side.
-use Rattle.std.proofs.Common.{rules, ◌≡◌, ◌++◌, subst}
+use Rattle.std.proofs.Common.{◌++◌, subst}
 use Rattle.ll_item.specs.Items.{media_of}
 use Rattle.ll_spool.specs.Files.{IsChanged}
 use Rattle.ll_spool.proofs.FileLemmas.{added_held, changed_rest, rest_then}
