@@ -46,26 +46,42 @@ impl<'a, R: Files<File = File> + Eprint> SpoolFiles<'a, R> {
         settings: &Settings,
     ) -> Result<Result<SpoolFiles<'a, R>, Unusable>, AllocError> {
         let what = Text::from_str(alloc, settings.channel())?;
-        let folder = format!(in alloc; "{directory}/{what}")?;
-        let path = format!(in alloc; "{folder}/items")?;
-        let items = match open_items(rt, folder, path) {
-            Ok(items) => items,
-            Err(error) => return Ok(Err(say(rt, &what, &error))),
+        let Ok(items) = open_locked(rt, alloc, directory, &what)? else {
+            return Ok(Err(Unusable));
         };
-        match items.try_lock() {
-            Ok(()) => {}
-            Err(TryLockError::WouldBlock) => return Ok(Err(say(rt, &what, &"in use"))),
-            Err(TryLockError::Error(error)) => return Ok(Err(say(rt, &what, &error))),
-        }
-        Ok(match open_all(rt, alloc, directory, settings)? {
-            Ok(sides) => Ok(SpoolFiles {
+        match open_all(rt, alloc, directory, settings)? {
+            Ok(sides) => Ok(Ok(SpoolFiles {
                 rt,
                 what,
                 items,
                 sides,
-            }),
-            Err(error) => Err(say(rt, &what, &error)),
-        })
+            })),
+            Err(error) => Ok(Err(say(rt, &what, &error))),
+        }
+    }
+}
+
+/// Opens and locks the file of the items of the channel called `what`, whose folder is in `directory`.
+fn open_locked<R: Files<File = File> + Eprint>(
+    rt: &R,
+    alloc: Global,
+    directory: &Text,
+    what: &Text,
+) -> Result<Result<File, Unusable>, AllocError> {
+    let folder = format!(in alloc; "{directory}/{what}")?;
+    let path = format!(in alloc; "{folder}/items")?;
+    match open_items(rt, folder, path) {
+        Ok(items) => Ok(lock(rt, what, items)),
+        Err(error) => Ok(Err(say(rt, what, &error))),
+    }
+}
+
+/// Locks `items`, unless another server has it.
+fn lock<R: Eprint>(rt: &R, what: &Text, items: File) -> Result<File, Unusable> {
+    match items.try_lock() {
+        Ok(()) => Ok(items),
+        Err(TryLockError::WouldBlock) => Err(say(rt, what, &"in use")),
+        Err(TryLockError::Error(error)) => Err(say(rt, what, &error)),
     }
 }
 
@@ -86,17 +102,27 @@ fn open_all<R: Files<File = File>>(
     directory: &Text,
     settings: &Settings,
 ) -> Result<Result<Vec<Sides>, Error>, AllocError> {
-    let channel = settings.channel();
     let mut sides = Vec::new(alloc);
     for name in settings.renditions() {
-        let a = format!(in alloc; "{directory}/{channel}/{name}.a")?;
-        let b = format!(in alloc; "{directory}/{channel}/{name}.b")?;
-        match open_sides(rt, a, b) {
+        match open_both(rt, alloc, directory, settings.channel(), name.as_str())? {
             Ok(both) => sides.push(both)?,
             Err(error) => return Ok(Err(error)),
         }
     }
     Ok(Ok(sides))
+}
+
+/// Opens the two files of the rendition called `name` of the channel `channel`, whose folder is in `directory`.
+fn open_both<R: Files<File = File>>(
+    rt: &R,
+    alloc: Global,
+    directory: &Text,
+    channel: &str,
+    name: &str,
+) -> Result<Result<Sides, Error>, AllocError> {
+    let a = format!(in alloc; "{directory}/{channel}/{name}.a")?;
+    let b = format!(in alloc; "{directory}/{channel}/{name}.b")?;
+    Ok(open_sides(rt, a, b))
 }
 
 /// Opens the two files of a rendition.
