@@ -39,24 +39,27 @@ keeps() {
 # prove_ahead FOLDER FILE: proves in copies in FOLDER, ahead of an `rt ci` over all crates, which takes what is proved here. FILE, which has the form of
 # crates.txt, lists the crates. `lanes` is how many are proved side by side, or empty for as many as `rt ci` finds memory for.
 #
-# Most crates wait for one another in the longest chain of what stands on what. So what its last crate but one stands on, and this crate, have a run of
-# their own, which divides the processors among those of its crates that are ready. A niced run, which proves a crate by one processor, takes what the
-# first leaves idle; it leaves the chain's last five to that one, and may go on when this function returns. Each takes what the other has proved. A run
-# takes a minute to begin: so a third proves the lowest crates meanwhile, and this function returns when the first is at its last crate.
+# Most crates wait for one another in a chain that ends with the server. So it has a run of its own, with `ll_refused`, which is long: this divides the
+# processors among those of its crates that are ready. Niced runs take what it leaves idle, and prove a crate by one processor, so they are kept off
+# the crates that others wait for: one ends below `ll_pieces`, and one begins when `ll_room` is proved, and ends below `ll_record`. Each run takes what
+# the others have proved. A run takes up to a minute to begin, so this function returns when the first one is at its last crate.
 prove_ahead() {
-    local fifth second
+    local ahead second=
     # If the kit keeps nothing, each run would prove all.
     keeps "$1/tiny" || return 0
-    read -r fifth second < <(longest_chain <"$2")
-    copy_crates "$1/low" $(lowest <"$2")
-    (cd "$1/low" && RT_JOBS=${lanes-} rt ci) &
-    copy_crates "$1/beside" $(not_above "$fifth" <"$2")
-    (cd "$1/beside" && RT_JOBS=${lanes-} nice -n 4 rt ci) &
-    copy_crates "$1/ahead" "$second"
+    copy_crates "$1/low" $(not_above ll_pieces <"$2")
+    (cd "$1/low" && RT_JOBS=${lanes-} nice -n 4 rt ci) &
+    copy_crates "$1/ahead" $(grep -oE '^(ll_server|ll_refused)\b' "$2")
     : >"$1/ahead.said"
     (cd "$1/ahead" && rt ci | tee "$1/ahead.said") &
+    ahead=$!
     until [ "$(proved <"$1/ahead.said")" -ge $(($(wc -l <"$1/ahead/crates.txt") - 1)) ]; do
-        kill -0 $! 2>/dev/null || break
+        if [ -z "$second" ] && grep -Eq '^rt: ll_room (proved$|is kept: )' "$1/ahead.said"; then
+            copy_crates "$1/beside" $(not_above ll_record <"$2")
+            (cd "$1/beside" && RT_JOBS=${lanes-} nice -n 4 rt ci) &
+            second=$!
+        fi
+        kill -0 "$ahead" 2>/dev/null || break
         sleep 1
     done
 }
@@ -64,39 +67,6 @@ prove_ahead() {
 # proved: reads what `rt ci` prints on standard input, and prints how many crates are proved.
 proved() {
     awk '/^rt: [a-z_]+ (proved$|is kept: )/ && !seen[$2]++ { count++ } END { print count + 0 }'
-}
-
-# longest_chain: reads lines of crates.txt on standard input, and prints two crates of the longest chain of those that stand on one another: the fifth and
-# the second from its end.
-longest_chain() {
-    heights | awk '
-        $1 > most { most = $1; last = $2 }
-        { below[$2] = $3 }
-        END { second = below[last]; print below[below[below[second]]], second }'
-}
-
-# lowest: reads lines of crates.txt on standard input, and prints the crates that stand on none, or on such crates alone.
-lowest() {
-    heights | awk '$1 <= 2 { print $2 }'
-}
-
-# heights: reads lines of crates.txt on standard input. Prints for each crate how many are in the longest chain that ends with it, its name, and the one
-# before it in that chain.
-heights() {
-    awk -F ': *' '
-        { sub(/ *#.*/, "") }
-        $1 == "" { next }
-        {
-            high[$1] = 1
-            below = "-"
-            many = split($2, list, " ")
-            for (at = 1; at <= many; at++)
-                if (high[list[at]] >= high[$1]) {
-                    high[$1] = high[list[at]] + 1
-                    below = list[at]
-                }
-            print high[$1], $1, below
-        }'
 }
 
 # not_above NAME: reads lines of crates.txt on standard input, and prints the crates but for this one and those that stand on it.
