@@ -53,23 +53,50 @@ pub fn serve_players<
     ensures fewer { IfErr result (λ e. length e.0.items < bells.now) }
     ensures untouched { IfErr result (λ e. All (λ p. p ≡ new_pass (length service.now.hub.now)) e.0.items) }
 {
-    let (rt, alloc) = (service.rt, service.alloc);
-    let Ok(inboxes) = inboxes_of(alloc, bells.len()) else {
+    let mut guests = Guests { service, source };
+    serve_guests(
+        service.rt,
+        service.alloc,
+        service.hub,
+        &mut guests,
+        bells,
+        idle,
+    )
+}
+
+/// Does what [`serve_players`] does, with the players that come from `guests`.
+fn serve_guests<
+    L: Ledgers + Send + Sync,
+    T: Talk<L> + Send,
+    N: Arrivals<T>,
+    R: Threads + Wait + time::Clock + Sync,
+>(
+    rt: &R,
+    alloc: Global,
+    hub: &Hub<L>,
+    guests: &mut N,
+    bells: &Bells,
+    idle: u64,
+) -> Result<Vec<Pass<L>>, (Vec<Pass<L>>, HubFault)>
+    ensures all { IfOk result (λ passes. length passes.items ≡ bells.now) }
+    ensures fewer { IfErr result (λ e. length e.0.items < bells.now) }
+    ensures untouched { IfErr result (λ e. All (λ p. p ≡ new_pass (length hub.now)) e.0.items) }
+{
+    let Ok(inboxes) = inboxes_of::<T>(alloc, bells.len()) else {
         return Err((Vec::new(alloc), HubFault::Memory));
     };
-    let passes = seats(rt, alloc, bells.len(), service.hub)?;
+    let passes = seats(rt, alloc, bells.len(), hub)?;
     let hall = Hall {
         rt,
         alloc,
-        hub: service.hub,
+        hub,
         bells,
         inboxes,
         started: AtomicUsize::new(0),
         closed: AtomicBool::new(false),
         idle,
     };
-    let mut guests = Guests { service, source };
-    Ok(share_out(&hall, &mut guests, passes))
+    Ok(share_out(&hall, guests, passes))
 }
 
 /// Returns `count` empty inboxes.
