@@ -2,7 +2,6 @@
 ghost use Rattle.std.specs.Prelude.{◌≡◌, ◌≤◌, IfOk};
 
 use ll_device::Failed;
-use ll_hub::Bell;
 use mio::{Events, Poll, Token, Waker};
 use std::alloc::Global;
 use std::marker::Model;
@@ -86,22 +85,20 @@ impl Bells {
         self.each.get(number)
     }
 
-    /// Wakes all pollers.
-    pub(crate) fn wake_all(&self) {
-        for bell in &self.each {
-            bell.wake();
-        }
-    }
-}
-
-impl Bell for &Bells {
-    fn ring(&mut self, channel: usize, more: usize) {
+    /// Wakes all pollers, to look for replies in the channel at place `channel`, of which `more` became ready; none if that is 0.
+    pub fn ring(&self, channel: usize, more: usize) {
         if more == 0 {
             return;
         }
-        let bells: &Bells = self;
-        for bell in &bells.each {
+        for bell in &self.each {
             bell.set_due(channel);
+            bell.wake();
+        }
+    }
+
+    /// Wakes all pollers.
+    pub(crate) fn wake_all(&self) {
+        for bell in &self.each {
             bell.wake();
         }
     }

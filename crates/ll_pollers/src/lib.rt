@@ -2,10 +2,11 @@
 #![tactic(auto)]
 
 mod bells;
+mod hall;
 mod player;
-mod players;
 mod poller;
 mod talk;
 
 pub use bells::Bells;
-pub use players::serve_players;
+pub use hall::{Hall, share_out};
+pub use talk::{Arrivals, Phase, Talk};

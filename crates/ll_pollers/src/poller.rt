@@ -1,10 +1,7 @@
 //! A poller: one thread that serves many players, and waits for none of them.
 use crate::bells::{PollerBell, Watch};
 use crate::player::Player;
-use crate::talk::Talk;
-use ll_hub::{Hub, Ledgers, Pass};
-use ll_player::Step;
-use ll_service::LinkFault;
+use crate::talk::{Phase, Talk};
 use mio::event::Event;
 use mio::unix::SourceFd;
 use mio::{Events, Interest, Poll, Token};
@@ -21,10 +18,9 @@ const BATCH: usize = 64;
 
 /// The players of one thread, and what is to be done for them.
 #[derive(Drop)]
-pub(crate) struct Poller<'a, L: Ledgers, T: Drop, R> {
+pub(crate) struct Poller<'a, T: Drop, R> {
     rt: &'a R,
     alloc: Global,
-    hub: &'a Hub<L>,
     bell: &'a PollerBell,
     poll: Poll,
     /// The players, by their keys.
@@ -42,21 +38,18 @@ pub(crate) struct Poller<'a, L: Ledgers, T: Drop, R> {
     seconds: u64,
 }
 
-impl<'a, L: Ledgers, T: Talk<L>, R: Wait + time::Clock> Poller<'a, L, T, R> {
-    /// Returns a poller without players, which `bell` wakes, for requests of the channels of `hub`. It closes players that are idle for more
-    /// than `idle` seconds.
+impl<'a, T: Talk, R: Wait + time::Clock> Poller<'a, T, R> {
+    /// Returns a poller without players, which `bell` wakes. It closes players that are idle for more than `idle` seconds.
     pub(crate) fn new(
         rt: &'a R,
         alloc: Global,
-        hub: &'a Hub<L>,
         bell: &'a PollerBell,
         poll: Poll,
         idle: u64,
-    ) -> Poller<'a, L, T, R> {
+    ) -> Poller<'a, T, R> {
         Poller {
             rt,
             alloc,
-            hub,
             bell,
             poll,
             players: Slab::new(alloc),
@@ -72,7 +65,7 @@ impl<'a, L: Ledgers, T: Talk<L>, R: Wait + time::Clock> Poller<'a, L, T, R> {
     /// Serves the players that come into `inbox`, until all are served after `closed` was set.
     pub(crate) fn run(
         &mut self,
-        pass: &mut Pass<L>,
+        lent: &mut T::Lent,
         events: &mut Events,
         inbox: &Mutex<Vec<T>>,
         closed: &AtomicBool,
@@ -86,9 +79,9 @@ impl<'a, L: Ledgers, T: Talk<L>, R: Wait + time::Clock> Poller<'a, L, T, R> {
                 return;
             }
             self.note_due();
-            self.handle_all(events, pass);
-            self.answer_due(pass);
-            self.read_again(pass);
+            self.handle_all(events, lent);
+            self.answer_due(lent);
+            self.read_again(lent);
             self.count_second();
         }
         unreachable!()
@@ -135,14 +128,14 @@ impl<'a, L: Ledgers, T: Talk<L>, R: Wait + time::Clock> Poller<'a, L, T, R> {
     }
 
     /// Handles `events`.
-    fn handle_all(&mut self, events: &Events, pass: &mut Pass<L>) {
+    fn handle_all(&mut self, events: &Events, lent: &mut T::Lent) {
         for event in events.iter() {
-            self.handle(event, pass);
+            self.handle(event, lent);
         }
     }
 
     /// Handles `event`: serves its player, unless a request of that is held. A player that has hung up is closed then.
-    fn handle(&mut self, event: &Event, pass: &mut Pass<L>) {
+    fn handle(&mut self, event: &Event, lent: &mut T::Lent) {
         let key = event.token().0;
         let Some(player) = self.players.get_mut(key) else {
             return;
@@ -151,46 +144,46 @@ impl<'a, L: Ledgers, T: Talk<L>, R: Wait + time::Clock> Poller<'a, L, T, R> {
         player.ended |= event.is_read_closed();
         player.since = self.seconds;
         if player.held.is_none() || player.unsent {
-            self.visit(key, pass);
+            self.visit(key, lent);
         } else if player.ended && player.connection.gone() {
             self.remove(key);
         }
     }
 
     /// Sends what is left of the answers of the player under `key`, reads it once, and answers its requests.
-    fn visit(&mut self, key: usize, pass: &mut Pass<L>) {
+    fn visit(&mut self, key: usize, lent: &mut T::Lent) {
         let Some(player) = self.players.get_mut(key) else {
             return;
         };
-        let mut step = Ok(Step::Idle);
+        let mut phase = Phase::Idle;
         if player.unsent {
-            step = player.connection.writable(pass);
+            phase = player.connection.writable(lent);
         } else if player.held.is_some() {
             return;
         }
-        if step == Ok(Step::Idle) {
+        if phase == Phase::Idle {
             player.came = false;
-            step = player.connection.readable(pass);
+            phase = player.connection.readable(lent);
         }
-        self.settle(key, step);
+        self.settle(key, phase);
     }
 
-    /// Notes what the player under `key` waits for after `step`. Closes it if it has ended.
-    fn settle(&mut self, key: usize, step: Result<Step, LinkFault>) {
+    /// Notes what the player under `key` waits for in `phase`. Closes it if it has ended.
+    fn settle(&mut self, key: usize, phase: Phase) {
         let Some(player) = self.players.get_mut(key) else {
             return;
         };
         player.unsent = player.connection.has_unsent();
-        match step {
-            Ok(Step::Idle) if !player.take_again() => {}
-            Ok(Step::Idle | Step::More) => {
+        match phase {
+            Phase::Idle if !player.take_again() => {}
+            Phase::Idle | Phase::More => {
                 if self.again.push_back(key).is_err() {
                     self.remove(key);
                 }
             }
-            Ok(Step::Unsent) => {}
-            Ok(Step::Held) => self.hold(key),
-            Ok(Step::Over) | Err(_) => self.remove(key),
+            Phase::Unsent => {}
+            Phase::Held => self.hold(key),
+            Phase::Over => self.remove(key),
         }
     }
 
@@ -220,7 +213,7 @@ impl<'a, L: Ledgers, T: Talk<L>, R: Wait + time::Clock> Poller<'a, L, T, R> {
     }
 
     /// Answers the next of the requests whose replies became ready, as many as a batch has.
-    fn answer_due(&mut self, pass: &mut Pass<L>) {
+    fn answer_due(&mut self, lent: &mut T::Lent) {
         let Some((channel, after)) = self.due.pop_front() else {
             return;
         };
@@ -232,12 +225,22 @@ impl<'a, L: Ledgers, T: Talk<L>, R: Wait + time::Clock> Poller<'a, L, T, R> {
         let Some(last) = last else {
             return;
         };
-        self.hub.keep_ready(self.rt, channel, &mut tickets);
+        self.keep_ready(channel, last, &mut tickets);
         for ticket in tickets {
-            self.answer(channel, ticket, pass);
+            self.answer(channel, ticket, lent);
         }
         if self.due.push_back((channel, last)).is_err() {
             self.bell.set_due(channel);
+        }
+    }
+
+    /// Keeps those of `tickets` whose requests have their reply. They are held, of the channel at place `channel`, and `last` is one of them.
+    fn keep_ready(&self, channel: usize, last: u64, tickets: &mut Vec<u64>) {
+        let Some(key) = self.waiting.get(&(channel, last)) else {
+            return;
+        };
+        if let Some(player) = self.players.get(*key) {
+            player.connection.keep_ready(channel, tickets);
         }
     }
 
@@ -261,7 +264,7 @@ impl<'a, L: Ledgers, T: Talk<L>, R: Wait + time::Clock> Poller<'a, L, T, R> {
     }
 
     /// Answers request `ticket` of the channel at place `channel`, whose reply is ready.
-    fn answer(&mut self, channel: usize, ticket: u64, pass: &mut Pass<L>) {
+    fn answer(&mut self, channel: usize, ticket: u64, lent: &mut T::Lent) {
         let Some(key) = self.waiting.remove(&(channel, ticket)) else {
             return;
         };
@@ -270,17 +273,17 @@ impl<'a, L: Ledgers, T: Talk<L>, R: Wait + time::Clock> Poller<'a, L, T, R> {
         };
         player.held = None;
         player.since = self.seconds;
-        let step = player.connection.ready(pass);
-        self.settle(key, step);
+        let phase = player.connection.ready(lent);
+        self.settle(key, phase);
     }
 
     /// Serves the next of the players that are to be read again, as many as a batch has.
-    fn read_again(&mut self, pass: &mut Pass<L>) {
+    fn read_again(&mut self, lent: &mut T::Lent) {
         for _ in 0..BATCH {
             let Some(key) = self.again.pop_front() else {
                 return;
             };
-            self.visit(key, pass);
+            self.visit(key, lent);
         }
     }
 

@@ -1,18 +1,34 @@
 //! A player's connection, as a poller sees it.
-use ll_device::TryLink;
-use ll_hub::{Bell, Clock, Ledgers, Pass, Sink};
-use ll_player::{Connection, Step};
-use ll_service::{Gate, LinkFault, Service};
 use std::os::fd::RawFd;
-use std::sync::Wait;
+
+/// What a connection waits for after a step.
+#[derive(Clone, Copy, PartialEq, Eq)]
+pub enum Phase {
+    /// More bytes from its player.
+    Idle,
+    /// Nothing: more bytes have come, perhaps.
+    More,
+    /// The link, to take what is left of its answers.
+    Unsent,
+    /// The reply to its request that is held.
+    Held,
+    /// It has ended, perhaps by a fault.
+    Over,
+}
 
 /// A player's connection, with what serves it. No step waits for its link or for a reply.
-pub(crate) trait Talk<L: Ledgers>: Drop {
+pub trait Talk: Drop {
+    /// The type of what a poller lends to each step of its connections.
+    type Lent;
+
     /// Returns the descriptor of its link.
     fn descriptor(&self) -> RawFd;
 
     /// Returns the place of the channel of its request that is held, and the request's number there; `None` if none is held.
     fn held(&self) -> Option<(usize, u64)>;
+
+    /// Keeps those of `tickets` that are numbers of held requests of the channel at place `channel`, of any connection, and have their reply.
+    fn keep_ready(&self, channel: usize, tickets: &mut Vec<u64>);
 
     /// Returns whether some of its answers are left to be sent.
     fn has_unsent(&self) -> bool;
@@ -21,49 +37,17 @@ pub(crate) trait Talk<L: Ledgers>: Drop {
     fn gone(&mut self) -> bool;
 
     /// Reads once, and answers the whole requests that came.
-    fn readable(&mut self, pass: &mut Pass<L>) -> Result<Step, LinkFault>;
+    fn readable(&mut self, lent: &mut Self::Lent) -> Phase;
 
     /// Sends what is left of its answers, and then answers the whole requests that came.
-    fn writable(&mut self, pass: &mut Pass<L>) -> Result<Step, LinkFault>;
+    fn writable(&mut self, lent: &mut Self::Lent) -> Phase;
 
     /// Answers its request that is held, if the reply is there, and the whole requests that came after it.
-    fn ready(&mut self, pass: &mut Pass<L>) -> Result<Step, LinkFault>;
+    fn ready(&mut self, lent: &mut Self::Lent) -> Phase;
 }
 
-/// A player's connection that `service` serves.
-#[derive(Drop)]
-pub(crate) struct Served<'a, L: Ledgers, P: TryLink, C, G: Gate, K, D, B, R: Wait> {
-    pub(crate) service: &'a Service<'a, L, C, G, K, D, B, R>,
-    pub(crate) connection: Connection<'a, L, P, G, R>,
-}
-
-impl<L: Ledgers, P: TryLink, C: Clock, G: Gate, K: Sink, D, B: Bell, R: Wait> Talk<L>
-    for Served<'_, L, P, C, G, K, D, B, R> {
-    fn descriptor(&self) -> RawFd {
-        self.connection.descriptor()
-    }
-
-    fn held(&self) -> Option<(usize, u64)> {
-        self.connection.held()
-    }
-
-    fn has_unsent(&self) -> bool {
-        self.connection.has_unsent()
-    }
-
-    fn gone(&mut self) -> bool {
-        self.connection.gone()
-    }
-
-    fn readable(&mut self, pass: &mut Pass<L>) -> Result<Step, LinkFault> {
-        self.connection.readable(self.service, pass)
-    }
-
-    fn writable(&mut self, pass: &mut Pass<L>) -> Result<Step, LinkFault> {
-        self.connection.writable(self.service, pass)
-    }
-
-    fn ready(&mut self, pass: &mut Pass<L>) -> Result<Step, LinkFault> {
-        self.connection.ready(self.service, pass)
-    }
+/// Where connections come from, one after another.
+pub trait Arrivals<T> {
+    /// Returns the next connection, or `None` if no more come.
+    fn next(&mut self) -> Option<T>;
 }

@@ -9,8 +9,7 @@ use ll_files::{Log, Records, SpoolFiles, Unusable};
 use ll_hub::{Blanks, Hub, HubFault, Ledgers, Pass};
 use ll_notes::Notes;
 use ll_opening::{Doors, IDLE, Listeners, Spools, Stop, restore_all, serve_status};
-use ll_pollers::{Bells, serve_players};
-use ll_serve::{Role, Service, serve_links};
+use ll_serve::{Bells, HubBell, Role, Service, serve_links, serve_players};
 use ll_settings::Settings;
 use ll_socket::Listener;
 use ll_status::StatusPort;
@@ -46,7 +45,7 @@ pub(crate) type Serving<'s, 'a, L, R> = Service<
     Numbers<'a, R>,
     &'s Records<'a, R>,
     SpoolFiles<'a, R>,
-    &'s Bells,
+    HubBell<'s>,
     R,
 >;
 
@@ -284,13 +283,14 @@ impl<
             pass,
             listeners,
         } = opened;
+        let bell = HubBell { bells };
         let service = Service {
             rt: self.rt,
             alloc: self.alloc,
             clock: &self.watch,
             gate: &self.numbers,
             sink: &&self.records,
-            bell: &bells,
+            bell: &bell,
             hub,
             spools: &spools,
             secrets: &doors.secrets,
