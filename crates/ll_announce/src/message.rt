@@ -14,10 +14,18 @@ use std::alloc::{AllocError, Global};
 use std::marker::Model;
 
 /// What is sent to an origin at once, and answered by one line.
-#[derive(Drop)]
 pub struct Message {
     bytes: Vec<u8>,
     said: Said,
+}
+
+impl Drop for Message {
+    fn drop(self) {
+        let Message {
+            bytes: _bytes,
+            said: _said,
+        } = self;
+    }
 }
 
 impl Model for Message {

@@ -7,8 +7,13 @@ use std::collections::VecDeque;
 use std::marker::Model;
 
 /// Messages that are to be sent, the first at the front.
-#[derive(Drop)]
 pub struct Messages(VecDeque<Message>);
+
+impl Drop for Messages {
+    fn drop(self) {
+        let Messages(_all) = self;
+    }
+}
 
 impl Model for Messages {
     ghost use Rattle.std.specs.Prelude.{List};

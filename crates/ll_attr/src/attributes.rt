@@ -8,7 +8,6 @@ ghost use Rattle.ll_attr.specs.Attributes.{attributes_in, attribute_spelling, sp
 use crate::text::Text;
 use std::alloc::AllocError;
 use std::marker::Model;
-use thiserror::Error;
 
 /// The value of an attribute (section 4.2).
 #[derive(Drop)]
@@ -58,19 +57,15 @@ impl PartialEq for Attribute {
 
 /// The first fault, from the left, of a text that is no attribute list. Within a pair, its name comes first, then that it
 /// is given twice, then its value; `Memory` comes after all of them.
-#[derive(Clone, Copy, Debug, Error)]
+#[derive(Clone, Copy, Debug)]
 pub enum AttrFault {
     /// A name is empty, has a character outside A-Z, 0-9 and `-`, or has no equals sign after it.
-    #[error("BadName")]
     BadName,
     /// A value is neither a quoted string nor bare.
-    #[error("BadValue")]
     BadValue,
     /// A name is given twice.
-    #[error("Twice")]
     Twice,
     /// Out of memory.
-    #[error("Memory")]
     Memory,
 }
 
@@ -86,9 +81,16 @@ impl From<AllocError> for AttrFault {
 
 /// An attribute list: names with their values, in the order in which they were written, no name twice (section 4.2). The
 /// list without attributes is a value too, though no text spells it.
-#[derive(Drop)]
 pub struct AttrList {
     attributes: Vec<Attribute>,
+}
+
+impl Drop for AttrList {
+    fn drop(self) {
+        let AttrList {
+            attributes: _attributes,
+        } = self;
+    }
 }
 
 impl Model for AttrList {
@@ -141,7 +143,7 @@ impl AttrList {
     pub fn split_first(self) -> Option<(Attribute, AttrList)>
         ensures { MatchOption result (self ≡ []) (λ s. self ≡ s.0 ∷ s.1) }
     {
-        let mut attributes = self.attributes;
+        let AttrList { mut attributes } = self;
         if attributes.is_empty() {
             return None;
         }

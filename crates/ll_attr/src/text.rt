@@ -8,9 +8,14 @@ use std::fmt;
 use std::marker::Model;
 
 /// An owned text, which contracts see as its bytes.
-#[derive(Drop)]
 pub struct Text {
     string: String,
+}
+
+impl Drop for Text {
+    fn drop(self) {
+        let Text { string: _string } = self;
+    }
 }
 
 impl Model for Text {

@@ -2,7 +2,6 @@
 use ll_item::Media;
 
 /// A part that comes: its place and its bytes.
-#[derive(Drop)]
 pub struct NextPart {
     /// The Media Sequence Number of its segment.
     pub number: u64,
@@ -10,4 +9,14 @@ pub struct NextPart {
     pub index: u64,
     /// Its bytes.
     pub media: Media,
+}
+
+impl Drop for NextPart {
+    fn drop(self) {
+        let NextPart {
+            number: _,
+            index: _,
+            media: _media,
+        } = self;
+    }
 }

@@ -8,10 +8,18 @@ use std::alloc::Global;
 use std::marker::Model;
 
 /// What a Media Initialization Section says of its tracks.
-#[derive(Drop)]
 pub struct Section {
     tracks: Vec<Track>,
     rate: Option<u64>,
+}
+
+impl Drop for Section {
+    fn drop(self) {
+        let Section {
+            tracks: _tracks,
+            rate: _,
+        } = self;
+    }
 }
 
 impl Model for Section {

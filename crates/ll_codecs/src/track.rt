@@ -23,12 +23,20 @@ pub struct Picture {
 }
 
 /// A track of a Media Initialization Section.
-#[derive(Drop)]
 pub struct Track {
     /// The codec of its samples, as RFC 6381 spells it.
     pub codec: Text,
     /// The size of its pictures, if it has some.
     pub picture: Option<Picture>,
+}
+
+impl Drop for Track {
+    fn drop(self) {
+        let Track {
+            codec: _codec,
+            picture: _picture,
+        } = self;
+    }
 }
 
 /// `vide`, the handler type of pictures (section 8.4.3).

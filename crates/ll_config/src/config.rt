@@ -40,7 +40,6 @@ pub struct Config {
 }
 
 /// The paths of what a server writes.
-#[derive(Drop)]
 pub struct Files {
     /// `record PATH`, which is optional: the path that the names of the records' files begin with.
     pub records: Option<Text>,
@@ -48,6 +47,16 @@ pub struct Files {
     pub log: Option<Text>,
     /// `spool DIRECTORY`, which is optional: the directory of the channels' spools.
     pub spool: Option<Text>,
+}
+
+impl Drop for Files {
+    fn drop(self) {
+        let Files {
+            records: _records,
+            log: _log,
+            spool: _spool,
+        } = self;
+    }
 }
 
 /// How many connections of publishers are served at once, and how many threads serve players at most.

@@ -3,34 +3,25 @@ ghost use Rattle.std.specs.Prelude.{◌≡◌};
 ghost use Rattle.ll_directive.specs.Targets.{status_of, fault_name};
 
 use std::alloc::AllocError;
-use thiserror::Error;
 
 /// The first fault of a target, in this order.
-#[derive(Clone, Copy, Debug, Error)]
+#[derive(Clone, Copy, Debug)]
 pub enum TargetFault {
     /// It hasn't the form of a target.
-    #[error("BadTarget")]
     BadTarget,
     /// Its path is neither that of a playlist nor that of media.
-    #[error("NotFound")]
     NotFound,
     /// A `_HLS_msn` that is no number below 2^64.
-    #[error("BadMsn")]
     BadMsn,
     /// A `_HLS_part` that is no number below 2^64.
-    #[error("BadPart")]
     BadPart,
     /// A `_HLS_skip` that is neither `YES` nor `v2`.
-    #[error("BadSkip")]
     BadSkip,
     /// A directive that occurs more than once.
-    #[error("Double")]
     Double,
     /// A `_HLS_part` without a `_HLS_msn`.
-    #[error("PartAlone")]
     PartAlone,
     /// Out of memory.
-    #[error("Memory")]
     Memory,
 }
 

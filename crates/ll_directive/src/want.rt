@@ -34,13 +34,24 @@ pub(crate) fn awaits(what: What) -> Awaited
 }
 
 /// A playlist or media that a request asks for, of a rendition of a channel.
-#[derive(Drop)]
 pub struct Want {
     channel: Text,
     rendition: Text,
     what: What,
     awaited: Awaited,
     skip: Option<SkipKind>,
+}
+
+impl Drop for Want {
+    fn drop(self) {
+        let Want {
+            channel: _channel,
+            rendition: _rendition,
+            what: _,
+            awaited: _,
+            skip: _,
+        } = self;
+    }
 }
 
 impl Model for Want {

@@ -1,29 +1,22 @@
 //! How chunks of a record can be wrong.
 use crate::entry::EntryFault;
 use std::alloc::AllocError;
-use thiserror::Error;
 
 /// How a chain of chunks is wrong: the first of these that applies to the line at which it is found. A chunk's first three lines count as
 /// one.
-#[derive(Clone, Copy, Debug, PartialEq, Eq, Error)]
+#[derive(Clone, Copy, Debug, PartialEq, Eq)]
 pub enum CheckKind {
     /// A line isn't of its form, or the end of the chunk is missing.
-    #[error("BadChunk")]
     BadChunk,
     /// A chunk doesn't begin with the entry after the last one.
-    #[error("Gap")]
     Gap,
     /// A chunk is of another channel, or of other settings.
-    #[error("OtherChannel")]
     OtherChannel,
     /// An entry says what can't have happened.
-    #[error("Refused")]
     Refused,
     /// An entry has another reply than the right one.
-    #[error("WrongReply")]
     WrongReply,
     /// Out of memory.
-    #[error("Memory")]
     Memory,
 }
 

@@ -17,13 +17,22 @@ use std::sync::Wait;
 ///
 /// No proof sees that nobody else adds: the word could have been changed by another. Then what is known here wouldn't be all, and the call waits
 /// forever.
-#[derive(Drop)]
 pub struct ChannelHistory<L: Named> {
     /// The number of deeds, which anybody may read.
     word: Word<Logged, u64, Law>,
     /// The number of deeds that are known here: all of them.
     count: u64,
     past: Past<L>,
+}
+
+impl<L: Named> Drop for ChannelHistory<L> {
+    fn drop(self) {
+        let ChannelHistory {
+            word: _word,
+            count: _,
+            past: _past,
+        } = self;
+    }
 }
 
 impl<L: Named> Model for ChannelHistory<L> {

@@ -3,7 +3,6 @@ use ll_directive::Want;
 use ll_item::Item;
 
 /// What a call does to a channel.
-#[derive(Drop)]
 pub enum Deed {
     /// Publishes an item.
     Publish(Item),
@@ -19,9 +18,27 @@ pub enum Deed {
     HandOut,
 }
 
+impl Drop for Deed {
+    fn drop(self) {
+        match self {
+            Deed::Publish(_item) => {}
+            Deed::Ask(_want) => {}
+            Deed::Collect(_) | Deed::Close(_) | Deed::Clock(_) | Deed::HandOut => {}
+        }
+    }
+}
+
 /// An entry of a history: a deed, and the place of the channel to which it was done. The program makes none; they stand in proofs.
-#[derive(Drop)]
 pub struct Logged {
     pub place: usize,
     pub deed: Deed,
+}
+
+impl Drop for Logged {
+    fn drop(self) {
+        let Logged {
+            place: _,
+            deed: _deed,
+        } = self;
+    }
 }

@@ -9,10 +9,18 @@ use logbook::Seen;
 use std::marker::{Model, PhantomData};
 
 /// The history of a hub as far as its holder has seen it. It takes no bytes.
-#[derive(Drop)]
 pub struct Past<L: Named> {
     pub(crate) seen: Seen<Logged, u64, Law>,
     of: PhantomData<L>,
+}
+
+impl<L: Named> Drop for Past<L> {
+    fn drop(self) {
+        let Past {
+            seen: _seen,
+            of: _of,
+        } = self;
+    }
 }
 
 impl<L: Named> Model for Past<L> {

@@ -11,11 +11,20 @@ use std::marker::Model;
 
 /// What one caller of a hub has seen: the hub's history so far, and how many items each channel has accepted at least. No answer that the caller gets
 /// is older. It also counts the caller's items that were accepted, and the requests that it made.
-#[derive(Drop)]
 pub struct Pass<L: Ledgers> {
     seen: Vec<u64>,
     pub(crate) counts: PassCounts<L>,
     pub(crate) past: Past<L>,
+}
+
+impl<L: Ledgers> Drop for Pass<L> {
+    fn drop(self) {
+        let Pass {
+            seen: _seen,
+            counts: _counts,
+            past: _past,
+        } = self;
+    }
 }
 
 impl<L: Ledgers> Model for Pass<L> {

@@ -5,10 +5,8 @@ ghost use Rattle.ll_item.specs.Items.{is_about_ranges, rendition_of};
 use crate::media::Media;
 use ll_attr::{AttrList, Text};
 use std::alloc::AllocError;
-use thiserror::Error;
 
 /// An item that a publisher announces.
-#[derive(Drop)]
 pub enum Item {
     /// The next Partial Segment of a rendition (EXT-X-PART, section 4.4.4.9).
     Part(PartItem),
@@ -56,8 +54,34 @@ pub enum Item {
     },
 }
 
+impl Drop for Item {
+    fn drop(self) {
+        match self {
+            Item::Part(_part) => {}
+            Item::Init {
+                rendition: _,
+                media: _media,
+            } => {}
+            Item::Finish { rendition: _ }
+            | Item::Break {
+                rendition: _,
+                time: _,
+            }
+            | Item::End { rendition: _ } => {}
+            Item::Range {
+                rendition: _,
+                id: _id,
+                attributes: _attributes,
+            } => {}
+            Item::Unrange {
+                rendition: _,
+                id: _id,
+            } => {}
+        }
+    }
+}
+
 /// A Partial Segment as it is announced (EXT-X-PART, section 4.4.4.9).
-#[derive(Drop)]
 pub struct PartItem {
     /// The index of the rendition in the settings.
     pub rendition: usize,
@@ -69,6 +93,18 @@ pub struct PartItem {
     pub finish: bool,
     /// The bytes of the part.
     pub media: Media,
+}
+
+impl Drop for PartItem {
+    fn drop(self) {
+        let PartItem {
+            rendition: _,
+            duration: _,
+            independent: _,
+            finish: _,
+            media: _media,
+        } = self;
+    }
 }
 
 impl PartItem {
@@ -87,19 +123,15 @@ impl PartItem {
 }
 
 /// Why a line is no item.
-#[derive(Clone, Copy, Debug, Error)]
+#[derive(Clone, Copy, Debug)]
 pub enum ItemFault {
     /// The line has the form of no item.
-    #[error("BadLine")]
     BadLine,
     /// The channel has no rendition of that name.
-    #[error("NoRendition")]
     NoRendition,
     /// The list of a date range can't be parsed, or doesn't begin with a quoted ID.
-    #[error("BadAttribute")]
     BadAttribute,
     /// Out of memory.
-    #[error("Memory")]
     Memory,
 }
 

@@ -86,18 +86,31 @@ impl<'a> Payload<'a> {
 }
 
 /// The bytes of an item, 1,048,576 at most, shared by all their holders.
-#[derive(Drop)]
 pub struct Media {
     kept: Kept,
 }
 
+impl Drop for Media {
+    fn drop(self) {
+        let Media { kept: _kept } = self;
+    }
+}
+
 /// The bytes of an item as they are kept.
-#[derive(Drop)]
 enum Kept {
     /// The block that all holders share.
     Shared(SharedBytes),
     /// The number of zeros, which take no memory.
     Zeros(u64),
+}
+
+impl Drop for Kept {
+    fn drop(self) {
+        match self {
+            Kept::Shared(_bytes) => {}
+            Kept::Zeros(_) => {}
+        }
+    }
 }
 
 impl Model for Media {

@@ -6,9 +6,14 @@ use std::marker::Model;
 use std::sync::ArcSlice;
 
 /// Contiguous bytes that all their holders share. An empty value takes no memory.
-#[derive(Drop)]
 pub struct SharedBytes {
     bytes: Option<ArcSlice<u8>>,
+}
+
+impl Drop for SharedBytes {
+    fn drop(self) {
+        let SharedBytes { bytes: _bytes } = self;
+    }
 }
 
 impl Model for SharedBytes {

@@ -35,7 +35,6 @@ use std::mem;
 /// that becomes the current one.
 ///
 /// This depends on the items alone, so a start finds it by reading their lines.
-#[derive(Drop)]
 pub struct Layout {
     alloc: Global,
     window: Window,
@@ -51,6 +50,21 @@ pub struct Layout {
     newer: VecDeque<KeptPart>,
     /// The sections that may still be asked for, all on the current side.
     sections: Vec<Section>,
+}
+
+impl Drop for Layout {
+    fn drop(self) {
+        let Layout {
+            alloc: _,
+            window: _window,
+            side: _side,
+            end: _,
+            end_before: _,
+            older: _older,
+            newer: _newer,
+            sections: _sections,
+        } = self;
+    }
 }
 
 impl Model for Layout {

@@ -1,42 +1,31 @@
 //! The faults of an encoder's bytes.
 use crate::kind::Kind;
 use std::alloc::AllocError;
-use thiserror::Error;
 
 /// The reason for which an encoder's bytes are refused.
-#[derive(Clone, Copy, Debug, Error)]
+#[derive(Clone, Copy, Debug)]
 pub enum StreamFault {
     /// A box whose size is less than that of its header (also 0, by which a box extends to the end of the file), that ends after the box around it,
     /// or that is too short for its fields.
-    #[error("a box that isn't one")]
     BadBox,
     /// A unit, which is an initialization section or a fragment, of more than 1,048,576 bytes.
-    #[error("a part or an initialization section of more than 1,048,576 bytes")]
     TooLarge,
     /// A fragment, or samples, before the movie.
-    #[error("a fragment before the moov box")]
     NoMoov,
     /// No box of this type where one is required: a movie without a track or its defaults, a fragment without a track's, or, before a movie or at
     /// the end of the input, a fragment without samples after it.
-    #[error("no {0} box")]
     Missing(Kind),
     /// Several boxes of this type where one is allowed: two fragments without samples between them, or a fragment with two of the governing track.
-    #[error("several {0} boxes")]
     Several(Kind),
     /// A track with a time scale of 0.
-    #[error("a time scale of 0")]
     NoTimeScale,
     /// A fragment of a track that the movie doesn't have.
-    #[error("a fragment of another track")]
     OtherTrack,
     /// A fragment that ends past what can be counted, or that is longer than a part is allowed to be and begins a run or is a part by itself.
-    #[error("a fragment that is too long")]
     TooLong,
     /// An input that ends inside a box.
-    #[error("the input ends in the midst of a box")]
     Cut,
     /// Out of memory.
-    #[error("out of memory")]
     Memory,
 }
 

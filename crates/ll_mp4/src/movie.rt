@@ -11,10 +11,18 @@ use std::alloc::Global;
 use std::marker::Model;
 
 /// The time scales of a movie's tracks, and the track that governs it: the first with pictures, or else the first.
-#[derive(Drop)]
 pub struct Movie {
     scales: Vec<TimeScale>,
     governing: Track,
+}
+
+impl Drop for Movie {
+    fn drop(self) {
+        let Movie {
+            scales: _scales,
+            governing: _governing,
+        } = self;
+    }
 }
 
 impl Model for Movie {

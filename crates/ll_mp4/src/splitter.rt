@@ -16,13 +16,22 @@ use std::marker::Model;
 
 /// The bytes of an encoder that weren't given out as units. They come in any pieces. An `mfra` box at the front of a unit (section 8.8.9) belongs to
 /// none: its bytes are dropped as they come.
-#[derive(Drop)]
 pub struct Splitter {
     bytes: Vec<u8>,
     /// The number of the bytes that were given out or dropped.
     at: usize,
     /// The number of the next bytes to be dropped as they come.
     skip: u64,
+}
+
+impl Drop for Splitter {
+    fn drop(self) {
+        let Splitter {
+            bytes: _bytes,
+            at: _,
+            skip: _,
+        } = self;
+    }
 }
 
 impl Model for Splitter {

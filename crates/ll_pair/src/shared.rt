@@ -8,8 +8,13 @@ use std::marker::Model;
 use std::sync::Arc;
 
 /// A message that several origins are sent, as one block of bytes. It is freed once none of them needs it.
-#[derive(Drop)]
 pub struct Shared(Arc<Message, Global>);
+
+impl Drop for Shared {
+    fn drop(self) {
+        let Shared(_all) = self;
+    }
+}
 
 impl Model for Shared {
     ghost use Rattle.std.specs.Arc.{arc_value};

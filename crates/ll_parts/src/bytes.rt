@@ -8,8 +8,13 @@ use std::alloc::{AllocError, Global};
 use std::marker::Model;
 
 /// Some bytes of a stream.
-#[derive(Drop)]
 pub struct Bytes(Vec<u8>);
+
+impl Drop for Bytes {
+    fn drop(self) {
+        let Bytes(_all) = self;
+    }
+}
 
 impl Model for Bytes {
     ghost use Rattle.std.specs.Prelude.{ℕ, List};

@@ -7,7 +7,6 @@ use std::alloc::{AllocError, Global};
 use std::marker::Model;
 
 /// The values of a movie with which its pieces are made.
-#[derive(Drop)]
 pub(crate) struct Heading {
     /// The initialization section.
     pub(crate) section: Bytes,
@@ -15,6 +14,16 @@ pub(crate) struct Heading {
     pub(crate) scales: Scales,
     /// The number of ticks in a second of the governing track.
     pub(crate) scale: u32,
+}
+
+impl Drop for Heading {
+    fn drop(self) {
+        let Heading {
+            section: _section,
+            scales: _scales,
+            scale: _,
+        } = self;
+    }
 }
 
 /// The time scales of a movie's tracks.

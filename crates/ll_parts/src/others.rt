@@ -10,7 +10,6 @@ use std::alloc::{AllocError, Global};
 use std::marker::Model;
 
 /// Bytes without a fragment of the governing track.
-#[derive(Drop)]
 pub(crate) struct Other {
     /// The bytes.
     pub(crate) bytes: Bytes,
@@ -18,12 +17,29 @@ pub(crate) struct Other {
     pub(crate) moment: Option<Moment>,
 }
 
+impl Drop for Other {
+    fn drop(self) {
+        let Other {
+            bytes: _bytes,
+            moment: _moment,
+        } = self;
+    }
+}
+
 /// The bytes between two fragments of the governing track, in the order in which they came.
-#[derive(Drop)]
 pub(crate) struct Others {
     items: Vec<Other>,
     /// The number of bytes of all of them.
     size: u64,
+}
+
+impl Drop for Others {
+    fn drop(self) {
+        let Others {
+            items: _items,
+            size: _,
+        } = self;
+    }
 }
 
 impl Model for Others {

@@ -7,7 +7,6 @@ use std::collections::VecDeque;
 use std::marker::Model;
 
 /// A piece of an encoder's stream, as it is published.
-#[derive(Drop)]
 pub enum Piece {
     /// The beginning of a movie, with its initialization section.
     Begin(Bytes),
@@ -22,8 +21,19 @@ pub enum Piece {
     Break(Option<u64>),
 }
 
+impl Drop for Piece {
+    fn drop(self) {
+        match self {
+            Piece::Begin(_one) => {}
+            Piece::Init(_one) => {}
+            Piece::Media(_one) => {}
+            Piece::Finish => {}
+            Piece::Break(_) => {}
+        }
+    }
+}
+
 /// A part.
-#[derive(Drop)]
 pub struct MediaPart {
     /// Its fragments and the bytes that go with them, with their times moved.
     pub bytes: Bytes,
@@ -35,9 +45,25 @@ pub struct MediaPart {
     pub finishes: bool,
 }
 
+impl Drop for MediaPart {
+    fn drop(self) {
+        let MediaPart {
+            bytes: _bytes,
+            duration: _,
+            independent: _,
+            finishes: _,
+        } = self;
+    }
+}
+
 /// The pieces to be published, the first at the front.
-#[derive(Drop)]
 pub struct Pieces(VecDeque<Piece>);
+
+impl Drop for Pieces {
+    fn drop(self) {
+        let Pieces(_all) = self;
+    }
+}
 
 impl Model for Pieces {
     ghost use Rattle.std.specs.Prelude.{List};

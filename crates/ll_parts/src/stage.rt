@@ -33,7 +33,6 @@ impl Stage {
 }
 
 /// A fragment of the governing track whose successor isn't known yet.
-#[derive(Drop)]
 pub(crate) struct Held {
     /// Its bytes, preceded by those before it that go with it.
     pub(crate) bytes: Bytes,
@@ -43,6 +42,17 @@ pub(crate) struct Held {
     pub(crate) sync: bool,
     /// The bytes that came after it.
     pub(crate) since: Others,
+}
+
+impl Drop for Held {
+    fn drop(self) {
+        let Held {
+            bytes: _bytes,
+            ticks: _,
+            sync: _,
+            since: _since,
+        } = self;
+    }
 }
 
 /// A fragment of the governing track, with all bytes that go with it.
@@ -99,12 +109,13 @@ impl Held {
         requires { count ≤ length self.since }
         ensures { IfOk result (λ group. group ≡ group_of self (take count self.since)) }
     {
-        let mut bytes = self.bytes;
-        self.since.add_first(count, &mut bytes)?;
-        Ok(Group {
-            bytes,
-            ticks: self.ticks,
-            sync: self.sync,
-        })
+        let Held {
+            mut bytes,
+            ticks,
+            sync,
+            since,
+        } = self;
+        since.add_first(count, &mut bytes)?;
+        Ok(Group { bytes, ticks, sync })
     }
 }

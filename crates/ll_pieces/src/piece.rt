@@ -14,12 +14,22 @@ use std::sync::Arc;
 
 /// The lines of a segment that isn't the first of a full playlist, and what they were written of. By its invariant the text is always that of
 /// the segment and its parts.
-#[derive(Drop)]
 pub(crate) struct Piece {
     finished: bool,
     segment: Segment,
     parts: Vec<Part>,
     text: String,
+}
+
+impl Drop for Piece {
+    fn drop(self) {
+        let Piece {
+            finished: _,
+            segment: _,
+            parts: _parts,
+            text: _text,
+        } = self;
+    }
 }
 
 impl Model for Piece {

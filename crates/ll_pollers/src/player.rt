@@ -1,6 +1,5 @@
 //! A player of a poller: its connection, and what was reported of it.
 /// A player's connection in a poller.
-#[derive(Drop)]
 pub(crate) struct Player<T: Drop> {
     pub(crate) connection: T,
     /// Its request that is held: the place of its channel, and its number there.
@@ -13,6 +12,19 @@ pub(crate) struct Player<T: Drop> {
     pub(crate) ended: bool,
     /// The second in which the system last reported something of it, or in which it was last answered.
     pub(crate) since: u64,
+}
+
+impl<T: Drop> Drop for Player<T> {
+    fn drop(self) {
+        let Player {
+            connection: _connection,
+            held: _held,
+            unsent: _,
+            came: _,
+            ended: _,
+            since: _,
+        } = self;
+    }
 }
 
 impl<T: Drop> Player<T> {

@@ -13,13 +13,22 @@ use std::alloc::{AllocError, Global};
 use std::marker::Model;
 
 /// The bytes of a publisher that haven't been taken out as lines yet. They come in any pieces.
-#[derive(Drop)]
 pub struct Feed {
     bytes: Vec<u8>,
     /// The number of bytes at the front that were taken out.
     at: usize,
     /// While a line is being passed over, the number of bytes before its end is searched for.
     passing: Option<u64>,
+}
+
+impl Drop for Feed {
+    fn drop(self) {
+        let Feed {
+            bytes: _bytes,
+            at: _,
+            passing: _,
+        } = self;
+    }
 }
 
 impl Model for Feed {

@@ -12,10 +12,18 @@ use std::marker::Model;
 use std::sync::Arc;
 
 /// What is kept of a date range under its id.
-#[derive(Drop)]
 pub(crate) struct RangeEntry {
     pub(crate) attributes: Text,
     pub(crate) added: u64,
+}
+
+impl Drop for RangeEntry {
+    fn drop(self) {
+        let RangeEntry {
+            attributes: _attributes,
+            added: _,
+        } = self;
+    }
 }
 
 impl Clone for RangeEntry {
@@ -30,9 +38,14 @@ impl Clone for RangeEntry {
 }
 
 /// Date ranges by their ids, in order of adding.
-#[derive(Drop)]
 struct RangeMap {
     entries: IndexMap<String, RangeEntry>,
+}
+
+impl Drop for RangeMap {
+    fn drop(self) {
+        let RangeMap { entries: _entries } = self;
+    }
 }
 
 impl Model for RangeMap {
@@ -135,11 +148,19 @@ impl RangeMap {
 }
 
 /// The date ranges that are listed, in order of adding. All copies share one map, and a copy that changes gets a map of its own first.
-#[derive(Drop)]
 pub(crate) struct ListedRanges {
     alloc: Global,
     /// The map, or `None` before the first date range, which takes no memory.
     shared: Option<Arc<RangeMap>>,
+}
+
+impl Drop for ListedRanges {
+    fn drop(self) {
+        let ListedRanges {
+            alloc: _,
+            shared: _shared,
+        } = self;
+    }
 }
 
 impl Model for ListedRanges {

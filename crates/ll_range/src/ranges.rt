@@ -9,31 +9,25 @@ use ll_attr::Text;
 use ll_settings::Settings;
 use std::alloc::{AllocError, Global};
 use std::marker::Model;
-use thiserror::Error;
 
 /// A rule that refuses to add or to remove a date range. If several apply, the first in this order counts.
-#[derive(Clone, Copy, Debug, Error)]
+#[derive(Clone, Copy, Debug)]
 pub enum RangeFault {
     /// A date range with this id is listed, or was removed recently (section 4.4.5.2).
-    #[error("IdTaken")]
     IdTaken,
     /// The id is empty or holds a quotation mark, a tab, CR or LF; or START-DATE is missing; or an attribute isn't allowed or has
     /// a value that isn't.
-    #[error("BadAttribute")]
     BadAttribute,
     /// No date range with this id is listed.
-    #[error("IdUnknown")]
     IdUnknown,
 }
 
 /// Why a date range isn't added or isn't removed.
-#[derive(Clone, Copy, Debug, Error)]
+#[derive(Clone, Copy, Debug)]
 pub enum RangeError {
     /// The first rule that refuses it.
-    #[error("{0}")]
     Refused(RangeFault),
     /// Out of memory, although no rule refuses it.
-    #[error("Memory")]
     Memory,
 }
 

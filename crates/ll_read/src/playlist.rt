@@ -8,12 +8,21 @@ use ll_line::DateRange;
 use std::marker::Model;
 
 /// An EXT-X-PART line (section 4.4.4.9).
-#[derive(Drop)]
 pub struct PartLine {
     /// The duration of the part, in microseconds.
     pub duration: u64,
     pub uri: Text,
     pub independent: bool,
+}
+
+impl Drop for PartLine {
+    fn drop(self) {
+        let PartLine {
+            duration: _,
+            uri: _uri,
+            independent: _,
+        } = self;
+    }
 }
 
 impl Model for PartLine {
@@ -25,7 +34,6 @@ impl Model for PartLine {
 }
 
 /// The lines of a segment before its EXTINF line.
-#[derive(Drop)]
 pub struct Block {
     /// Whether the segment begins with a discontinuity (section 4.4.4.3).
     pub broken: bool,
@@ -34,6 +42,17 @@ pub struct Block {
     /// The time of its first sample (section 4.4.4.6).
     pub time: Text,
     pub parts: Vec<PartLine>,
+}
+
+impl Drop for Block {
+    fn drop(self) {
+        let Block {
+            broken: _,
+            map: _map,
+            time: _time,
+            parts: _parts,
+        } = self;
+    }
 }
 
 impl Model for Block {
@@ -45,12 +64,21 @@ impl Model for Block {
 }
 
 /// A segment with its EXTINF line and its URI.
-#[derive(Drop)]
 pub struct Finished {
     pub block: Block,
     /// The duration of the segment, in microseconds (section 4.4.4.1).
     pub duration: u64,
     pub uri: Text,
+}
+
+impl Drop for Finished {
+    fn drop(self) {
+        let Finished {
+            block: _block,
+            duration: _,
+            uri: _uri,
+        } = self;
+    }
 }
 
 impl Model for Finished {
@@ -80,13 +108,22 @@ impl Model for Skip {
 }
 
 /// The position of another rendition (EXT-X-RENDITION-REPORT, section 4.4.5.4).
-#[derive(Drop)]
 pub struct Report {
     pub uri: Text,
     /// The Media Sequence Number of its last segment with a part.
     pub number: u64,
     /// The Part Index of that segment's last part.
     pub index: u64,
+}
+
+impl Drop for Report {
+    fn drop(self) {
+        let Report {
+            uri: _uri,
+            number: _,
+            index: _,
+        } = self;
+    }
 }
 
 impl Model for Report {
@@ -98,7 +135,6 @@ impl Model for Report {
 }
 
 /// What stays the same while the stream goes on.
-#[derive(Drop)]
 pub struct Header {
     /// The protocol version (section 4.4.1.2).
     pub version: u64,
@@ -112,6 +148,19 @@ pub struct Header {
     pub skips_date_ranges: bool,
     /// The part target duration, in microseconds (section 4.4.3.7).
     pub part_target: u64,
+}
+
+impl Drop for Header {
+    fn drop(self) {
+        let Header {
+            version: _,
+            target: _,
+            hold_back: _,
+            skip_until: _,
+            skips_date_ranges: _,
+            part_target: _,
+        } = self;
+    }
 }
 
 impl Model for Header {
@@ -130,7 +179,6 @@ impl Model for Header {
 }
 
 /// A Media Playlist or a Playlist Delta Update.
-#[derive(Drop)]
 pub struct Playlist {
     pub header: Header,
     /// The Media Sequence Number of the first segment (section 4.4.3.2).
@@ -146,6 +194,22 @@ pub struct Playlist {
     pub reports: Vec<Report>,
     /// The URI of the next part (section 4.4.5.3), or `None` if the rendition has ended.
     pub hint: Option<Text>,
+}
+
+impl Drop for Playlist {
+    fn drop(self) {
+        let Playlist {
+            header: _header,
+            sequence: _,
+            discontinuity: _,
+            ranges: _ranges,
+            skipped: _skipped,
+            segments: _segments,
+            open_block: _open_block,
+            reports: _reports,
+            hint: _hint,
+        } = self;
+    }
 }
 
 impl Model for Playlist {

@@ -11,10 +11,18 @@ use std::alloc::{AllocError, Global};
 use std::marker::Model;
 
 /// A record that was handed out, in the form that `check` reads. The chunks of a channel, in order from its start on, are a faithful chain.
-#[derive(Drop)]
 pub struct Chunk {
     text: Vec<u8>,
     entries: u64,
+}
+
+impl Drop for Chunk {
+    fn drop(self) {
+        let Chunk {
+            text: _text,
+            entries: _,
+        } = self;
+    }
 }
 
 impl Model for Chunk {

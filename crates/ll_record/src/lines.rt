@@ -11,9 +11,14 @@ use std::marker::Model;
 const SPARE: usize = 80;
 
 /// Lines, each with its end.
-#[derive(Drop)]
 pub(crate) struct Lines {
     text: Vec<u8>,
+}
+
+impl Drop for Lines {
+    fn drop(self) {
+        let Lines { text: _text } = self;
+    }
 }
 
 impl Model for Lines {

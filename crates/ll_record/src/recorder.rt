@@ -19,7 +19,6 @@ pub(crate) const RECORD_END: u64 = 65_536;
 /// A room, and the record of its events since the record was last handed out. The record holds 65,536 items, requests and readings; then
 /// each further one is refused as RecordFull until the record is handed out. Replies are still handed out and requests closed: the memory
 /// for their lines is reserved when a request is made.
-#[derive(Drop)]
 pub struct Recorder {
     pub(crate) alloc: Global,
     pub(crate) room: Room,
@@ -28,6 +27,18 @@ pub struct Recorder {
     pub(crate) at: u64,
     /// The number of items, requests and readings in the record.
     pub(crate) calls: u64,
+}
+
+impl Drop for Recorder {
+    fn drop(self) {
+        let Recorder {
+            alloc: _,
+            room: _room,
+            lines: _lines,
+            at: _,
+            calls: _,
+        } = self;
+    }
 }
 
 impl Model for Recorder {

@@ -14,12 +14,20 @@ use ll_window::{Window, WindowFault};
 use std::alloc::{AllocError, Global};
 
 /// What is kept of one rendition.
-#[derive(Drop)]
 pub struct Rendition {
     /// The segments and parts.
     pub window: Window,
     /// The date ranges.
     pub ranges: Ranges,
+}
+
+impl Drop for Rendition {
+    fn drop(self) {
+        let Rendition {
+            window: _window,
+            ranges: _ranges,
+        } = self;
+    }
 }
 
 impl Rendition {

@@ -6,7 +6,6 @@ use ll_item::Item;
 use std::marker::Model;
 
 /// The event of a channel that a value comes from.
-#[derive(Drop)]
 pub enum Stamp {
     /// An item was accepted.
     Publish(Item),
@@ -16,12 +15,31 @@ pub enum Stamp {
     Collect(u64),
 }
 
+impl Drop for Stamp {
+    fn drop(self) {
+        match self {
+            Stamp::Publish(_item) => {}
+            Stamp::Ask(_, _want) => {}
+            Stamp::Collect(_) => {}
+        }
+    }
+}
+
 /// A value with the room and the event that it comes from. Only a room makes one.
-#[derive(Drop)]
 pub struct Stamped<T> {
     room: u64,
     stamp: Stamp,
     value: T,
+}
+
+impl<T: Drop> Drop for Stamped<T> {
+    fn drop(self) {
+        let Stamped {
+            room: _,
+            stamp: _stamp,
+            value: _value,
+        } = self;
+    }
 }
 
 impl<T> Model for Stamped<T> {

@@ -22,16 +22,13 @@ use ll_settings::{Channels, Settings, SettingsFault};
 use ll_verdict::{LAST_TIME, PublishFault};
 use std::alloc::Global;
 use std::str;
-use thiserror::Error;
 
 /// Why a line can't be read.
-#[derive(Clone, Copy, Debug, Error)]
+#[derive(Clone, Copy, Debug)]
 pub enum LineFault {
     /// No script has this line in this place.
-    #[error("BadLine")]
     BadLine,
     /// Out of memory.
-    #[error("Memory")]
     Memory,
 }
 

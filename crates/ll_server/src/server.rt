@@ -403,7 +403,7 @@ impl<
         match served {
             Ok(passes) => (passes, None),
             Err((passes, fault)) => {
-                let _ = eprintln!(self.rt; "llhls: {whose} are not served: {fault}");
+                let _ = eprintln!(self.rt; "llhls: {whose} are not served: {}", fault.name());
                 (passes, Some(fault))
             }
         }

@@ -6,10 +6,18 @@ use ll_wire::{Response, Slices};
 use std::marker::Model;
 
 /// The bytes of a response that weren't sent yet.
-#[derive(Drop)]
 pub(crate) struct Left {
     response: Response,
     sent: usize,
+}
+
+impl Drop for Left {
+    fn drop(self) {
+        let Left {
+            response: _response,
+            sent: _,
+        } = self;
+    }
 }
 
 impl Model for Left {

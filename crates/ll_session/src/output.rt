@@ -11,9 +11,14 @@ use std::collections::VecDeque;
 use std::marker::Model;
 
 /// Answers in the order in which they are sent, of which the first may have been sent in part.
-#[derive(Drop)]
 pub(crate) struct Output {
     answers: VecDeque<Left>,
+}
+
+impl Drop for Output {
+    fn drop(self) {
+        let Output { answers: _answers } = self;
+    }
 }
 
 impl Model for Output {

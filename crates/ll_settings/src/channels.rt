@@ -10,10 +10,18 @@ use std::alloc::{AllocError, Global};
 use std::marker::Model;
 
 /// The settings of channels in the order in which they were added, with an index by name.
-#[derive(Drop)]
 pub struct Channels {
     all: Vec<Settings>,
     places: IndexMap<String, usize>,
+}
+
+impl Drop for Channels {
+    fn drop(self) {
+        let Channels {
+            all: _all,
+            places: _places,
+        } = self;
+    }
 }
 
 impl Model for Channels {

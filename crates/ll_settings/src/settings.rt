@@ -13,37 +13,27 @@ use crate::name;
 use ll_attr::Text;
 use std::alloc::{AllocError, Global};
 use std::marker::Model;
-use thiserror::Error;
 
 /// Why settings are refused. If several apply, the first in this order counts, except that `BadLine` comes before all others.
-#[derive(Clone, Copy, Debug, Error)]
+#[derive(Clone, Copy, Debug)]
 pub enum SettingsFault {
     /// The target duration is outside 1 to 60 seconds.
-    #[error("BadTarget")]
     BadTarget,
     /// The part target duration is outside 10,000 microseconds to the target duration.
-    #[error("BadPartTarget")]
     BadPartTarget,
     /// The Skip Boundary is less than six target durations.
-    #[error("SkipTooSmall")]
     SkipTooSmall,
     /// The window is less than the Skip Boundary and three target durations together, or more than 86,400 seconds.
-    #[error("WindowTooSmall")]
     WindowTooSmall,
     /// The channel's or a rendition's name is no name, or a rendition is there twice.
-    #[error("BadName")]
     BadName,
     /// There is no rendition, or there are more than 8.
-    #[error("NoRendition")]
     NoRendition,
     /// The first Media Sequence Number is above 2^60, or the start is after the year 9999.
-    #[error("BadStart")]
     BadStart,
     /// The line doesn't have the form of a settings line.
-    #[error("BadLine")]
     BadLine,
     /// Out of memory.
-    #[error("Memory")]
     Memory,
 }
 
@@ -58,11 +48,20 @@ impl From<AllocError> for SettingsFault {
 }
 
 /// The settings of one channel, within the limits.
-#[derive(Drop)]
 pub struct Settings {
     channel: Text,
     numbers: Numbers,
     renditions: Vec<Text>,
+}
+
+impl Drop for Settings {
+    fn drop(self) {
+        let Settings {
+            channel: _channel,
+            numbers: _,
+            renditions: _renditions,
+        } = self;
+    }
 }
 
 impl PartialEq for Settings {

@@ -5,7 +5,7 @@ use std::fmt;
 use std::net::SocketAddr;
 
 /// Where an origin listens for publishers.
-#[derive(Drop, PartialEq, Eq)]
+#[derive(PartialEq, Eq)]
 pub enum Address {
     /// At an IP address and a port.
     Ip(SocketAddr),
@@ -13,6 +13,16 @@ pub enum Address {
     Host(Text),
     /// At the socket file of this path.
     Unix(Text),
+}
+
+impl Drop for Address {
+    fn drop(self) {
+        match self {
+            Address::Ip(_one) => {}
+            Address::Host(_one) => {}
+            Address::Unix(_one) => {}
+        }
+    }
 }
 
 impl Address {

@@ -8,25 +8,19 @@ use ll_item::{Item, Media, PartItem};
 pub(crate) fn filled(item: Item, media: Media) -> Item
     ensures { length media ≡ length (media_of item) → blank result ≡ blank item }
 {
-    match item {
-        Item::Part(part) => {
-            let PartItem {
-                rendition,
-                duration,
-                independent,
-                finish,
-                media: _,
-            } = part;
-            Item::Part(PartItem {
-                rendition,
-                duration,
-                independent,
-                finish,
-                media,
-            })
-        }
-        Item::Init { rendition, .. } => Item::Init { rendition, media },
-        other => other,
+    match &item {
+        Item::Part(part) => Item::Part(PartItem {
+            rendition: part.rendition,
+            duration: part.duration,
+            independent: part.independent,
+            finish: part.finish,
+            media,
+        }),
+        Item::Init { rendition, .. } => Item::Init {
+            rendition: *rendition,
+            media,
+        },
+        _ => item,
     }
 }
 

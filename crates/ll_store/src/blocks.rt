@@ -8,10 +8,18 @@ use std::marker::Model;
 use std::slice;
 
 /// The bytes that a request gets, part by part, shared by all their holders.
-#[derive(Drop)]
 pub struct Blocks {
     parts: Vec<Media>,
     size: u64,
+}
+
+impl Drop for Blocks {
+    fn drop(self) {
+        let Blocks {
+            parts: _parts,
+            size: _,
+        } = self;
+    }
 }
 
 impl Model for Blocks {

@@ -3,11 +3,19 @@ use ll_item::Media;
 use std::marker::Model;
 
 /// The bytes of a finished segment, part by part.
-#[derive(Drop)]
 pub(crate) struct SegmentMedia {
     pub(crate) parts: Vec<Media>,
     /// The number of bytes of all parts.
     pub(crate) size: u64,
+}
+
+impl Drop for SegmentMedia {
+    fn drop(self) {
+        let SegmentMedia {
+            parts: _parts,
+            size: _,
+        } = self;
+    }
 }
 
 impl Model for SegmentMedia {
@@ -22,8 +30,16 @@ impl Model for SegmentMedia {
 }
 
 /// A Media Initialization Section: the bytes that were announced last for a map number.
-#[derive(Drop)]
 pub(crate) struct Section {
     pub(crate) number: u64,
     pub(crate) bytes: Media,
+}
+
+impl Drop for Section {
+    fn drop(self) {
+        let Section {
+            number: _,
+            bytes: _bytes,
+        } = self;
+    }
 }

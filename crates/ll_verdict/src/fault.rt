@@ -1,15 +1,12 @@
 //! Why a channel does not take a request or a reading of the clock.
 use std::alloc::AllocError;
-use thiserror::Error;
 
 /// The reason that a request is no event of its channel, whatever it asks for: the first of these that applies.
-#[derive(Clone, Copy, Debug, PartialEq, Eq, Error)]
+#[derive(Clone, Copy, Debug, PartialEq, Eq)]
 pub enum AskFault {
     /// The channel or its record takes no more events.
-    #[error("RecordFull")]
     RecordFull,
     /// Out of memory.
-    #[error("Memory")]
     Memory,
 }
 
@@ -32,16 +29,13 @@ impl AskFault {
 pub const LAST_TIME: u64 = 1 << 60;
 
 /// The reason that a reading of the clock is no event of its channel: the first of these that applies.
-#[derive(Clone, Copy, Debug, PartialEq, Eq, Error)]
+#[derive(Clone, Copy, Debug, PartialEq, Eq)]
 pub enum ClockFault {
     /// The reading is above 2^60 milliseconds.
-    #[error("ClockRange")]
     ClockRange,
     /// The channel or its record takes no more events.
-    #[error("RecordFull")]
     RecordFull,
     /// Out of memory: a record needs some for a reading, a room none.
-    #[error("Memory")]
     Memory,
 }
 

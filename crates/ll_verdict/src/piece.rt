@@ -3,7 +3,6 @@ use ll_item::What;
 use ll_store::Blocks;
 
 /// A segment, a part or a Media Initialization Section, as a player gets it. Its bytes are shared with all who hold them.
-#[derive(Drop)]
 pub struct MediaReply {
     /// Its bytes.
     pub bytes: Blocks,
@@ -13,4 +12,15 @@ pub struct MediaReply {
     pub rendition: usize,
     /// The file of the rendition that it is.
     pub what: What,
+}
+
+impl Drop for MediaReply {
+    fn drop(self) {
+        let MediaReply {
+            bytes: _bytes,
+            number: _,
+            rendition: _,
+            what: _,
+        } = self;
+    }
 }

@@ -8,7 +8,6 @@ use ll_item::SkipKind;
 use ll_page::Page;
 
 /// What a request that had to wait gets, unless it is closed before.
-#[derive(Drop)]
 pub enum Settled {
     /// The playlist or delta update of the state in which what it awaited is there, or its rendition has ended.
     Text(Page),
@@ -20,8 +19,33 @@ pub enum Settled {
     Timeout,
 }
 
+impl Drop for Settled {
+    fn drop(self) {
+        match self {
+            Settled::Text(_page) => {}
+            Settled::Media(_piece) => {}
+            Settled::NotFound | Settled::Timeout => {}
+        }
+    }
+}
+
+impl Settled {
+    ghost use Rattle.ll_verdict.specs.Verdict.{reply_of};
+
+    /// Returns the reply that it is.
+    fn into_reply(self) -> Reply
+        ensures { result ≡ reply_of self }
+    {
+        match self {
+            Settled::Text(page) => Reply::Text(page),
+            Settled::Media(piece) => Reply::Media(piece),
+            Settled::NotFound => Reply::NotFound,
+            Settled::Timeout => Reply::Timeout,
+        }
+    }
+}
+
 /// What a request gets.
-#[derive(Drop)]
 pub enum Reply {
     /// A playlist or delta update.
     Text(Page),
@@ -37,6 +61,16 @@ pub enum Reply {
     Timeout,
 }
 
+impl Drop for Reply {
+    fn drop(self) {
+        match self {
+            Reply::Text(_page) => {}
+            Reply::Media(_piece) => {}
+            Reply::NotFound | Reply::TooFar | Reply::Busy | Reply::Timeout => {}
+        }
+    }
+}
+
 impl From<Settled> for Reply {
     ghost use Rattle.std.specs.Prelude.{◌≡◌};
     ghost use Rattle.ll_verdict.specs.Verdict.{reply_of};
@@ -44,12 +78,7 @@ impl From<Settled> for Reply {
     ghost from_gives = { λ settled reply. reply ≡ reply_of settled };
 
     fn from(settled: Settled) -> Reply {
-        match settled {
-            Settled::Text(page) => Reply::Text(page),
-            Settled::Media(piece) => Reply::Media(piece),
-            Settled::NotFound => Reply::NotFound,
-            Settled::Timeout => Reply::Timeout,
-        }
+        settled.into_reply()
     }
 }
 

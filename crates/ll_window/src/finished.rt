@@ -18,11 +18,19 @@ use std::mem;
 use std::sync::Arc;
 
 /// A finished segment with the parts that playlists list of it, which copies share.
-#[derive(Drop)]
 pub(crate) struct FinishedSegment {
     pub(crate) segment: Segment,
     /// The parts, or `None` once playlists no longer list them.
     parts: Option<Arc<Vec<Part>>>,
+}
+
+impl Drop for FinishedSegment {
+    fn drop(self) {
+        let FinishedSegment {
+            segment: _,
+            parts: _parts,
+        } = self;
+    }
 }
 
 impl Model for FinishedSegment {
@@ -69,7 +77,6 @@ impl FinishedSegment {
 }
 
 /// The finished segments of the window.
-#[derive(Drop)]
 pub(crate) struct Finished {
     pub(crate) rows: VecDeque<FinishedSegment>,
     /// The duration of all segments together, in microseconds.
@@ -80,6 +87,18 @@ pub(crate) struct Finished {
     pub(crate) far: usize,
     /// The duration of the other segments together, in microseconds.
     pub(crate) near_lasting: u64,
+}
+
+impl Drop for Finished {
+    fn drop(self) {
+        let Finished {
+            rows: _rows,
+            lasting: _,
+            discontinuity: _,
+            far: _,
+            near_lasting: _,
+        } = self;
+    }
 }
 
 impl Finished {

@@ -360,7 +360,7 @@ impl Window {
         ensures ok { OnOk result (self.new ≡ with_item self.old item) }
         ensures err { OnErr result (self.new ≡ self.old) }
     {
-        match item {
+        match &item {
             Item::Part(part) => self.add_part(Part {
                 duration: part.duration,
                 independent: part.independent,
@@ -369,7 +369,7 @@ impl Window {
                 restart: self.progress.restart,
             })?,
             Item::Finish { .. } => self.finish_open()?,
-            Item::Break { time, .. } => self.add_break(time),
+            Item::Break { time, .. } => self.add_break(*time),
             Item::End { .. } => self.end()?,
             Item::Init { .. } | Item::Range { .. } | Item::Unrange { .. } => {}
         }

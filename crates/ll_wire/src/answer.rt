@@ -4,7 +4,6 @@ use ll_directive::TargetFault;
 use ll_verdict::{AskFault, Reply};
 
 /// The answer to a request.
-#[derive(Drop)]
 pub enum Answer {
     /// The reply of its channel.
     Reply(Reply),
@@ -14,4 +13,13 @@ pub enum Answer {
     Target(TargetFault),
     /// The fault of its head.
     Head(HeadFault),
+}
+
+impl Drop for Answer {
+    fn drop(self) {
+        match self {
+            Answer::Reply(_reply) => {}
+            Answer::Unavailable(_) | Answer::Target(_) | Answer::Head(_) => {}
+        }
+    }
 }

@@ -9,7 +9,6 @@ use ll_item::SharedBytes;
 use std::sync::ArcStr;
 
 /// The end of a response, which is shared and never copied.
-#[derive(Drop)]
 pub enum Body {
     /// Nothing shared: the head is the whole response.
     Nothing,
@@ -19,13 +18,31 @@ pub enum Body {
     Media(MediaBody),
 }
 
+impl Drop for Body {
+    fn drop(self) {
+        match self {
+            Body::Nothing => {}
+            Body::Playlist(_text) => {}
+            Body::Media(_media) => {}
+        }
+    }
+}
+
 /// A response: the head, written for it alone, and then the body.
-#[derive(Drop)]
 pub struct Response {
     /// The lines before the body and, if the body isn't shared, the body too.
     pub head: Vec<u8>,
     /// The shared bytes after the head.
     pub body: Body,
+}
+
+impl Drop for Response {
+    fn drop(self) {
+        let Response {
+            head: _head,
+            body: _body,
+        } = self;
+    }
 }
 
 impl Body {

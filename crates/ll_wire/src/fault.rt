@@ -1,24 +1,18 @@
 //! Why the head of a request is refused.
 use http::StatusCode;
-use thiserror::Error;
 
 /// Why no request stands at the front of some bytes: the first of these faults that its head has.
-#[derive(Clone, Copy, Debug, Error)]
+#[derive(Clone, Copy, Debug)]
 pub enum HeadFault {
     /// The bytes begin no head (RFC 9112, sections 2 to 5).
-    #[error("BadHead")]
     BadHead,
     /// The first 8,192 bytes hold no whole head, or the head has more than 64 fields.
-    #[error("HeadTooLarge")]
     HeadTooLarge,
     /// The version is HTTP/1.1, and there isn't exactly one Host field (section 3.2).
-    #[error("BadHost")]
     BadHost,
     /// The method isn't GET.
-    #[error("BadMethod")]
     BadMethod,
     /// A body follows (section 6).
-    #[error("BadBody")]
     BadBody,
 }
 

@@ -12,10 +12,18 @@ use std::marker::Model;
 const TOO_MANY: u64 = 1 << 63;
 
 /// The body of a response with media, in blocks shared with all others who hold them.
-#[derive(Drop)]
 pub struct MediaBody {
     blocks: Vec<SharedBytes>,
     size: u64,
+}
+
+impl Drop for MediaBody {
+    fn drop(self) {
+        let MediaBody {
+            blocks: _blocks,
+            size: _,
+        } = self;
+    }
 }
 
 impl Model for MediaBody {

@@ -29,32 +29,8 @@ returns-in_err-put_out-clause-breaks g c =
     (looked-same c.in_ok-answer.field-0 c.in-Some-3.answer _ _ c.in-Some-3.is c.in_ok-answer.ensures.looked) c.wait.ensures.unwritten
     (reply-grows _ _ _ _ _ (reply-of _ _ _ _ c.in_ok-answer.field-0 c.in-Some-3.answer c.in-Some-3.is c.in_ok-answer.ensures.answer)))
 
-pub loop-preserved-in_ok-put_out : goal.loop-preserved-in_ok-put_out
-loop-preserved-in_ok-put_out g c = record {
-  steady = c.in_ok-answer.ensures.faults ∙ c.in_ok-held.ensures.faults ∙ c.loop.invariant.steady;
-  unread = looked-same c.in_ok-answer.field-0 c.in-Some-3.answer _ _ c.in-Some-3.is c.in_ok-answer.ensures.looked ∙ c.go_on.ensures.unread ∙ c.loop.invariant.unread;
-  plays =
-      goes-collected _ _ _ _ _ _ _ c.go_on.new.session c.put_out.new.session c.in-Some-2.held.hub.now c.in-Some-2.held.claim c.in-Some-3.answer _ _
-      (goes-held _ _ _ (λ held. held.claim) c.in_ok-held.field-0 c.in-Some-2.held _ _ _ _ _ c.go_on.new.session _ _ c.loop.invariant.plays c.in_ok-held.ensures.plays c.in-Some-2.is)
-      (looked-same c.in_ok-answer.field-0 c.in-Some-3.answer _ _ c.in-Some-3.is c.in_ok-answer.ensures.looked) c.wait.ensures.unwritten
-      (hub-of (λ held. held.hub.now) _ c.in_ok-held.field-0 c.in-Some-2.held c.in-Some-2.is c.in_ok-held.ensures.hub)
-      (reply-of _ _ _ _ c.in_ok-answer.field-0 c.in-Some-3.answer c.in-Some-3.is c.in_ok-answer.ensures.answer) c.in_ok-put_out.ensures.put;
-}
-
-pub loop-preserved-in_ok-put_out-2 : goal.loop-preserved-in_ok-put_out-2
-loop-preserved-in_ok-put_out-2 g c = record {
-  steady = c.in_ok-answer.ensures.faults ∙ c.in_ok-held.ensures.faults ∙ c.loop.invariant.steady;
-  unread = looked-same c.in_ok-answer.field-0 c.in-Some-3.answer _ _ c.in-Some-3.is c.in_ok-answer.ensures.looked ∙ c.go_on.ensures.unread ∙ c.loop.invariant.unread;
-  plays =
-      goes-collected _ _ _ _ _ _ _ c.go_on.new.session c.put_out.new.session c.in-Some-2.held.hub.now c.in-Some-2.held.claim c.in-Some-3.answer _ _
-      (goes-held _ _ _ (λ held. held.claim) c.in_ok-held.field-0 c.in-Some-2.held _ _ _ _ _ c.go_on.new.session _ _ c.loop.invariant.plays c.in_ok-held.ensures.plays c.in-Some-2.is)
-      (looked-same c.in_ok-answer.field-0 c.in-Some-3.answer _ _ c.in-Some-3.is c.in_ok-answer.ensures.looked) c.wait.ensures.unwritten
-      (hub-of (λ held. held.hub.now) _ c.in_ok-held.field-0 c.in-Some-2.held c.in-Some-2.is c.in_ok-held.ensures.hub)
-      (reply-of _ _ _ _ c.in_ok-answer.field-0 c.in-Some-3.answer c.in-Some-3.is c.in_ok-answer.ensures.answer) c.in_ok-put_out.ensures.put;
-}
-
-pub loop-preserved-in_ok-put_out-3 : goal.loop-preserved-in_ok-put_out-3
-loop-preserved-in_ok-put_out-3 g c = record {
+pub loop-preserved-in-Some-2 : goal.loop-preserved-in-Some-2
+loop-preserved-in-Some-2 g c = record {
   steady = c.in_ok-answer.ensures.faults ∙ c.in_ok-held.ensures.faults ∙ c.loop.invariant.steady;
   unread = looked-same c.in_ok-answer.field-0 c.in-Some-3.answer _ _ c.in-Some-3.is c.in_ok-answer.ensures.looked ∙ c.go_on.ensures.unread ∙ c.loop.invariant.unread;
   plays =

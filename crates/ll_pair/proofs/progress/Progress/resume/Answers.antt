@@ -10,6 +10,6 @@ returns-then-is_same-clause-resumed g c messages told = resumed-here _ _ _ _ (c.
 
 pub returns-clause-resumed : goal.returns-clause-resumed
 returns-clause-resumed g c messages told =
-    resumed-after c.args.self.now c.args.place c.after-after.result messages _ _ _ c.in_ok-message.field-0 c.message-2.result.now (c.is_same.ensures.apart c.if-is_same.false) c.if-not-self.false
+    resumed-after c.args.self.now c.args.place c.after-after.result messages _ _ _ c.in_ok-message.field-0 c.message.result.now (c.is_same.ensures.apart c.if-is_same.false) c.if-not-self.false
     (ap (led c.args.self.now.place) (sym c.said.ensures) ∙ sym c.after-after.ensures) (c.is_same-2.ensures.same c.if-not-is_same.false) told c.in_ok-message.ensures.first
-    (c.in-Message.is ∙ ap (λ m. first.Message m) (sym c.message-2.ensures)) c.in_ok-message.ensures.kept c.let_go.ensures
+    (c.in-Message.is ∙ ap (λ m. first.Message m) (sym c.message.ensures)) c.in_ok-message.ensures.kept c.let_go.ensures
