@@ -51,6 +51,7 @@ bench: kit
 	@$(HERE)bench/waiting.sh
 	@$(HERE)bench/connections.sh
 	@$(HERE)bench/serve.sh
+	@$(HERE)bench/secrets.sh
 	@$(HERE)bench/media.sh
 	@$(HERE)bench/rotate.sh
 	@$(HERE)bench/spool.sh

@@ -84,6 +84,23 @@ END
     return 1
 }
 
+# publish_parts COUNT: publishes parts of a second of channel cam to the server that was started last, four to a segment.
+publish_parts() {
+    local number answer publisher
+    exec {publisher}<>"/dev/tcp/127.0.0.1/$publish_port"
+    for ((number = 0; number < $1; number++)); do
+        case $((number % 4)) in
+        0) echo 'cam part hi 1000000 i' ;;
+        3) echo 'cam part hi 1000000 f' ;;
+        *) echo 'cam part hi 1000000 -' ;;
+        esac >&"$publisher"
+        if ! read -r -t 10 answer <&"$publisher" || [ "$answer" != "ok $((number + 1))" ]; then
+            wrong "part $number is answered by '$answer'"
+        fi
+    done
+    exec {publisher}>&-
+}
+
 # compare NAME UNIT COLUMN DIGITS OTHER..: prints the medians of a column of the program's measured runs and of those of other servers, their quartiles,
 # and the ratios.
 compare() {

@@ -29,22 +29,10 @@ ulimit -S -n "$(ulimit -H -n)"
 
 # start NAME: starts a server, waits until it is up, and publishes to it.
 start() {
-    local number answer
     log=$room/$1.log
     serve "${file[$1]}" 'workers 4096' 'channel cam target=4 part=1000000 skip=24 window=36 renditions=hi first=0 start=0' >&2
     player_port[$1]=$port publisher_port[$1]=$publish_port process[$1]=$server
-    exec {publisher}<>"/dev/tcp/127.0.0.1/$publish_port"
-    for ((number = 0; number < parts; number++)); do
-        case $((number % 4)) in
-        0) echo 'cam part hi 1000000 i' ;;
-        3) echo 'cam part hi 1000000 f' ;;
-        *) echo 'cam part hi 1000000 -' ;;
-        esac >&"$publisher"
-        if ! read -r -t 10 answer <&"$publisher" || [ "$answer" != "ok $((number + 1))" ]; then
-            wrong "$1 answers part $number by '$answer'"
-        fi
-    done
-    exec {publisher}>&-
+    publish_parts "$parts"
 }
 
 # present NAME CONNECTIONS: prints the line of one run, and the microseconds of processor time for an answer.
