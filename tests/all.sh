@@ -3,8 +3,8 @@
 # that, the crates' tests run as `rt try` builds them, with checks and from the sources alone (SLOW=1: some rows on the program that it builds so,
 # too; `make try` runs all of them). Once the program is proved, each row runs on it, as each compiler of the toolchain builds it. Beside these, the
 # proved program is tested with devices that give and take a few bytes at a time, large inputs, mutated playlists, mutated records, records in
-# format 2, entries that are explained, the bytes of connections cut in every way, connections that end too early, mutated heads, and calls whose
-# memory is refused; and with the server's addresses, log, what is published to it, and its records, which mostly wait; and its Debian package
+# format 2, entries that are explained, the bytes of connections cut in every way, connections that end too early, mutated heads, and each allocation
+# refused in some rows; and with the server's addresses, log, what is published to it, and its records, which mostly wait; and its Debian package
 # (SLOW=1: installed in a clean Debian too). Then come, one at a time, the server with real sockets, what stands in front of it, a player that
 # watches it, and a page in a browser. The last line is the sum, `N passed, M failed`.
 . "$(dirname "${BASH_SOURCE[0]}")/common.sh" || exit 2
@@ -49,6 +49,14 @@ finish() {
     commands=() waiting=0
 }
 
+# crates_tests: runs tests/try_tests.sh once the proofs leave processors idle, since its builds take some minutes: when `ll_hub` is proved.
+crates_tests() {
+    until grep -Eqs '^rt: ll_hub (proved$|is kept: |NOT PROVED)' "$room/ahead.said" "$room/proofs" || [ -e "$room/proofs.status" ]; do
+        sleep 1
+    done
+    nice tests/try_tests.sh
+}
+
 # minutes WORD..: prints how long this run has taken so far, and what its commands that have ended took of processors.
 minutes() {
     local user system
@@ -60,17 +68,17 @@ minutes() {
 start tests/edits_apply.py
 start tests/listed.py
 start tests/build_lines.sh
-begin nice -n 5 tests/try_tests.sh
+begin crates_tests
 if [ -n "${SLOW-}" ]; then
-    begin nice -n 5 tests/try_rows.sh 40
+    begin nice tests/try_rows.sh 40
 fi
 echo "== rt ci"
-# A line for each crate shows that the proofs go on. With more lanes than processors, one can wait for what another run proves.
+# A line for each crate shows that the proofs go on.
 {
-    lanes=$((${RT_JOBS:-$(nproc)} + 1)) prove_ahead "$room" crates.txt > >(news) 2>&1
+    lanes=${RT_JOBS:-$(nproc)} prove_ahead "$room" crates.txt > >(news) 2>&1
     rt ci 2>&1 | tee "$room/proofs" | news
     echo "${PIPESTATUS[0]}" >"$room/proofs.status"
-} </dev/null > >(tell "$(grep -c '^[a-z]' crates.txt)" "$room"/{low,ahead,beside} "$root") &
+} </dev/null > >(tell "$(grep -c '^[a-z]' crates.txt)" "$room"/{low,middle,high,ahead} "$root") &
 proofs=$!
 # The program is tested as soon as it is proved, since the last proofs leave processors idle.
 until grep -Eqs '^rt: llhls (proved$|is kept: )' "$room/proofs" || [ -e "$room/proofs.status" ]; do
@@ -88,6 +96,8 @@ start tests/package.py "$program"
 for name in mutated_playlists mutated_records upgrades connections dropped mutated_heads short_devices large rows; do
     start "tests/$name.sh" "$program"
 done
+start env LLHLS="$program" tests/refused_memory.sh held_example bytes_of_parts date_ranges_are_skipped next_request_waits_again \
+    apply/date_ranges_with_two_removed check/a_held_request upgrade/a_held_request explain/a_held_request
 if [ -e "$by_rattle" ]; then
     start tests/rows.sh "$by_rattle"
 fi
@@ -99,7 +109,6 @@ add "$(<"$room/proofs.status")" "$room/proofs" rt ci
 if grep -q '\.edit: BAD EDIT' "$room/proofs"; then
     fail 'a must-fail edit does not compile'
 fi
-start tests/refused_calls.sh crates/ll_refused/out/ll_refused
 finish
 for name in serve.py edge.py watch.py page.py; do
     show "tests/$name" "$program"

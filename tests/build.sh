@@ -18,7 +18,7 @@ prove_all() {
     (cd "$room/all" && rt ci)
 }
 
-if ! prove_all </dev/null 2>&1 | tee "$made/build.log" | news | tell "$(wc -l <"$room/all/crates.txt")" "$room"/{ahead,beside,all} >&2; then
+if ! prove_all </dev/null 2>&1 | tee "$made/build.log" | news | tell "$(wc -l <"$room/all/crates.txt")" "$room"/{low,middle,high,ahead,all} >&2; then
     echo "$made/build.log says why" >&2
     exit 1
 fi

@@ -27,6 +27,16 @@ copy_crates() {
     done
 }
 
+# copy_tests CRATES FOLDER: copies the test crates in the folder CRATES to FOLDER, with the crates that they stand on, which its file `crates` lists. Their
+# files end in `.in`, since `rt ci` refuses a file *.rt that no crate of crates.txt reads.
+copy_tests() {
+    local each
+    copy_crates "$2" $(grep -oE '\bll_[a-z_]+' "$1/crates")
+    cp -r "$1"/*/ "$2/crates"
+    cat "$1/crates" >>"$2/crates.txt"
+    find "$2/crates" -name '*.in' | while IFS= read -r each; do mv "$each" "${each%.in}"; done
+}
+
 # keeps FOLDER: returns whether the kit keeps what one run proved for the next. Tries it in FOLDER, with a crate of one function.
 keeps() {
     mkdir -p "$1/crates/tiny/src"
@@ -37,31 +47,42 @@ keeps() {
 }
 
 # prove_ahead FOLDER FILE: proves in copies in FOLDER, ahead of an `rt ci` over all crates, which takes what is proved here. FILE, which has the form of
-# crates.txt, lists the crates. `lanes` is how many are proved side by side, or empty for as many as `rt ci` finds memory for.
+# crates.txt, lists the crates. `lanes` is how many a niced run proves side by side, or empty for as many as `rt ci` finds memory for.
 #
-# Most crates wait for one another in a chain that ends with the server. So it has a run of its own, with `ll_refused`, which is long: this divides the
-# processors among those of its crates that are ready. Niced runs take what it leaves idle, and prove a crate by one processor, so they are kept off
-# the crates that others wait for: one ends below `ll_pieces`, and one begins when `ll_room` is proved, and ends below `ll_record`. Each run takes what
-# the others have proved. A run takes up to a minute to begin, so this function returns when the first one is at its last crate.
+# Most crates wait for one another in a chain that ends with the server. So it has a run of its own, which divides the processors among those of its
+# crates that are ready. Niced runs take what it leaves idle, and prove a crate by one processor, so they are kept off the crates that others wait for:
+# each ends below a crate of the chain, and begins when those below that are proved. Each run takes what the others have proved. A run takes up to a
+# minute to begin, so this function returns when the first one is at its last crate.
 prove_ahead() {
-    local ahead second=
+    local ahead stage=0
+    local -a folders=(middle high) after=(ll_pieces ll_room) below=(ll_page ll_record)
     # If the kit keeps nothing, each run would prove all.
     keeps "$1/tiny" || return 0
-    copy_crates "$1/low" $(not_above ll_pieces <"$2")
-    (cd "$1/low" && RT_JOBS=${lanes-} nice -n 4 rt ci) &
-    copy_crates "$1/ahead" $(grep -oE '^(ll_server|ll_refused)\b' "$2")
+    copy_crates "$1/ahead" $(grep -oE '^ll_server\b' "$2")
     : >"$1/ahead.said"
-    (cd "$1/ahead" && rt ci | tee "$1/ahead.said") &
+    (cd "$1/ahead" && rt ci | tee "$1/ahead.said" | by_crate) &
     ahead=$!
+    prove_beside "$1/low" ll_attr <"$2"
     until [ "$(proved <"$1/ahead.said")" -ge $(($(wc -l <"$1/ahead/crates.txt") - 1)) ]; do
-        if [ -z "$second" ] && grep -Eq '^rt: ll_room (proved$|is kept: )' "$1/ahead.said"; then
-            copy_crates "$1/beside" $(not_above ll_record <"$2")
-            (cd "$1/beside" && RT_JOBS=${lanes-} nice -n 4 rt ci) &
-            second=$!
+        if [ -n "${after[stage]-}" ] && grep -Eq "^rt: ${after[stage]} (proved\$|is kept: )" "$1/ahead.said"; then
+            prove_beside "$1/${folders[stage]}" "${below[stage]}" <"$2"
+            stage=$((stage + 1))
         fi
         kill -0 "$ahead" 2>/dev/null || break
         sleep 1
     done
+}
+
+# prove_beside FOLDER NAME: reads lines of crates.txt on standard input, and begins a run in a copy in FOLDER, niced as far as can be, of the crates that
+# don't stand on this one.
+prove_beside() {
+    copy_crates "$1" $(not_above "$2")
+    (cd "$1" && RT_JOBS=${lanes-} nice -n 19 rt ci | by_crate) &
+}
+
+# by_crate: passes on what `rt ci` prints, all lines of a crate at once, so that those of other runs don't stand between them.
+by_crate() {
+    awk '{ lines = lines $0 "\n" } /^rt: / { printf "%s", lines; fflush(); lines = "" } END { printf "%s", lines }'
 }
 
 # proved: reads what `rt ci` prints on standard input, and prints how many crates are proved.

@@ -1,11 +1,16 @@
 #!/usr/bin/env bash
-# refused_calls.sh PROGRAM: runs the proved ll_refused under the library that refuses memory as it orders, and compares its line for each call with
-# tests/refused_calls.stdout: how many refusals the call met, how often it returned Memory, and `ok`. The last line, `N passed, M failed`, counts
-# calls.
+# refused_calls.sh: proves the program ll_refused of tests/refused, in a copy of the crates that it stands on, and runs it under the library that refuses
+# memory as it orders. Compares its line for each call with tests/refused_calls.stdout: how many refusals the call met, how often it returned Memory,
+# and `ok`. The last line, `N passed, M failed`, counts calls.
 . "$(dirname "${BASH_SOURCE[0]}")/common.sh" || exit 2
-take_program "$1"
+cd "$root" || exit 2
+. tests/copy.sh
 compile "$here/refused_calls.c" -shared -fPIC
-LD_PRELOAD=$room/refused_calls timeout 60 "$program" >"$room/told"
+copy_tests tests/refused "$room/all"
+if ! (cd "$room/all" && rt ci) </dev/null >"$room/proofs" 2>&1; then
+    give_up "$(tail -n 20 "$room/proofs")"
+fi
+LD_PRELOAD=$room/refused_calls timeout 60 "$room/all/crates/ll_refused/out/ll_refused" >"$room/told"
 status=$?
 while IFS= read -r -u 3 wanted; do
     IFS= read -r -u 4 told || told='nothing'

@@ -1,6 +1,6 @@
 #!/usr/bin/env bash
-# refused_memory.sh [ROW..]: first, if no row is named, tries single calls, as tests/refused_calls.sh does. Then, for each row, refuses the Nth
-# allocation of the program, for N from 1 until a run meets no refusal; tests/refused_memory.py says how such a run is allowed to end. A row of
+# refused_memory.sh [ROW..]: first, if no row is named, tries single calls, as tests/refused_calls.sh does. Then, for each row named, or for all, refuses
+# the Nth allocation of the program, for N from 1 until a run meets no refusal; tests/refused_memory.py says how such a run is allowed to end. A row of
 # tests/apply is named apply/NAME, one of tests/check check/NAME, one of tests/upgrade upgrade/NAME, one of tests/explain explain/NAME. If the texts
 # of a row of tests/apply have a fault, Memory comes only of the program's arguments and of reading the files: no run ends in Memory after one that
 # ended in the fault. It prints how many N were tried, and how the runs ended. The last line, `N passed, M failed`, counts calls and rows.
@@ -16,8 +16,7 @@ show() {
 }
 
 if [ $# = 0 ]; then
-    calls=$("$here/build.sh" ll_refused) || exit 2
-    show "$here/refused_calls.sh" "$calls"
+    show "$here/refused_calls.sh"
 fi
 show python3 "$here/refused_memory.py" "$program" "$room/refused_memory" "$here" "$room/rows" "$@"
 told_all
