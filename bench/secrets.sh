@@ -40,7 +40,7 @@ measure_by_turns() {
         stop
         start
         python3 "$here/secrets.py" "$publish_port" 10000 >"$room/answered" &
-        servers+=($!)
+        servers=("$!" "${servers[@]}")
         sleep 1.5
         measured "$1" >>"$room/program.runs"
         sed 1d "$room/answered" >>"$room/secrets"
