@@ -15,6 +15,7 @@ runs=${RUNS:-9}
 length=${LENGTH:-1}
 settings='target=4 part=1000000 skip=24 window=36 renditions=hi first=0 start=0'
 compile "$here/load.c" -pthread
+compile "$here/secrets.c"
 
 # start: starts a server of two channels, the second with a secret.
 start() {
@@ -39,11 +40,11 @@ measure_by_turns() {
         measured "$1" >>"$room/quiet.runs"
         stop
         start
-        python3 "$here/secrets.py" "$publish_port" 10000 >"$room/answered" &
+        "$room/secrets" "$publish_port" 10000 >"$room/answered" &
         servers=("$!" "${servers[@]}")
         sleep 1.5
         measured "$1" >>"$room/program.runs"
-        sed 1d "$room/answered" >>"$room/secrets"
+        sed 1d "$room/answered" >>"$room/rates"
         stop
     done
 }
@@ -59,4 +60,4 @@ compare '    from the part to the first answer' ms 1 3 quiet
 compare '    to the median answer' ms 2 3 quiet
 compare '    to the last answer' ms 3 3 quiet
 compare '    to the ok of the publisher' ms 4 3 quiet
-echo "secrets answered in a second: $(spread <"$room/secrets")"
+echo "secrets answered in a second: $(spread <"$room/rates")"
