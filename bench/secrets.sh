@@ -1,6 +1,6 @@
 #!/usr/bin/env bash
-# secrets.sh [PROGRAM]: measures what players notice while strangers try secrets: 64 connections send 10,000 wrong secrets of one channel a second, and 64
-# players ask for another channel's playlist. By turns with and without them, it prints
+# secrets.sh [PROGRAM]: measures what players notice while strangers try secrets: 64 connections send 10,000 wrong secrets of one channel a second, of
+# which the server answers some, and 64 players ask for another channel's playlist. By turns with and without them, it prints
 #
 # - if each player asks for the present playlist again as soon as it is answered: the answers per second, and the 50th and 99th percentile of the time to
 #   an answer;

@@ -3,6 +3,7 @@
 given, and what `llhls push` publishes with it. The last line is `N passed, M failed`."""
 import hashlib
 import sys
+import time
 
 from push import ends, ends_with
 from push_inputs import input_of
@@ -11,6 +12,7 @@ from rooms import check, try_named
 from serve_room import Publisher
 
 REFUSED = 'no 19 NotAllowed'
+PAUSE = 0.1     # seconds before that answer
 LONG_WORD = '~!"#%&()*+,-./:;<=>?@[]^_`{|}'
 CHANNEL = 'channel {} target=4 part=1000000 skip=24 window=36 renditions=hi first=0 start={}'
 
@@ -100,6 +102,21 @@ def bytes_of_strangers(room):
         link.publish('cam part hi 1000000 -', 'ok 1', b'bytes')
 
 
+def strangers_wait(room):
+    """Each wrong word of a connection is answered some time after the one before, and nobody else waits for that."""
+    port = serve(room)
+    with Publisher(port) as stranger, Publisher(port) as link:
+        began = time.monotonic()
+        stranger.send(b'cam secret wore\n' * 10)
+        link.publish('cam secret word', 'ok 0')
+        link.publish('cam part hi 1000000 -', 'ok 1')
+        took = time.monotonic() - began
+        check(took < PAUSE, f'a publisher waits for {took} s')
+        stranger.answers(*[REFUSED] * 10)
+        took = time.monotonic() - began
+        check(took >= 10 * PAUSE, f'ten wrong words are answered after {took} s')
+
+
 def pushes(room, content):
     """A push with the secret publishes; one with another word, or without, is refused."""
     address = f'127.0.0.1:{serve(room, 4000000000000)}'
@@ -118,6 +135,7 @@ def all_tests():
         yield lines_are_answered, name
     yield opens_its_own_connection,
     yield bytes_of_strangers,
+    yield strangers_wait,
     for content in b'word\n', b'wore\n', None:
         yield pushes, content
 

@@ -5,6 +5,7 @@ mod journal;
 mod log;
 mod queue;
 mod records;
+mod side_file;
 mod spool_files;
 
 pub use log::Log;

@@ -1,6 +1,7 @@
 //! The files of channels' spools.
 ghost use Rattle.std.specs.Prelude.{None};
 
+use crate::side_file::SideFile;
 use ll_attr::Text;
 use ll_layout::{Place, Side};
 use ll_settings::Settings;
@@ -9,14 +10,13 @@ use std::alloc::{AllocError, Global};
 use std::fmt::Display;
 use std::fs::{self, File, OpenOptions, TryLockError};
 use std::io::{Error, ErrorKind, Read, Write};
-use std::os::unix::fs::FileExt;
 use std::rt::Files;
 
 /// The two files of the bytes of a rendition's items.
 #[derive(Drop)]
 struct Sides {
-    a: File,
-    b: File,
+    a: SideFile,
+    b: SideFile,
 }
 
 /// The files of a channel's spool, which lie in the folder of the channel's name: `items`, the text of its items, and for each rendition
@@ -92,7 +92,11 @@ fn open_items<R: Files<File = File>>(rt: &R, folder: String, items: String) -> R
         Err(error) if error.kind() == ErrorKind::AlreadyExists => {}
         Err(error) => return Err(error),
     }
-    open(rt, items)
+    OpenOptions::new()
+        .read(true)
+        .append(true)
+        .create(true)
+        .open(rt, items)
 }
 
 /// Opens the files of each rendition of the channel of `settings`, whose folder is in `directory`.
@@ -128,18 +132,9 @@ fn open_both<R: Files<File = File>>(
 /// Opens the two files of a rendition.
 fn open_sides<R: Files<File = File>>(rt: &R, a: String, b: String) -> Result<Sides, Error> {
     Ok(Sides {
-        a: open(rt, a)?,
-        b: open(rt, b)?,
+        a: SideFile::open(rt, a)?,
+        b: SideFile::open(rt, b)?,
     })
-}
-
-/// Opens the file `path`, or creates it, to be read and appended to.
-fn open<R: Files<File = File>>(rt: &R, path: String) -> Result<File, Error> {
-    OpenOptions::new()
-        .read(true)
-        .append(true)
-        .create(true)
-        .open(rt, path)
 }
 
 /// Says on standard error why the spool of the channel called `what` can't be used.
@@ -150,11 +145,11 @@ fn say<R: Eprint, E: Display>(rt: &R, what: &Text, why: &E) -> Unusable {
 
 impl<R> SpoolFiles<'_, R> {
     /// Returns the file of `side` of `rendition`.
-    fn file(&self, rendition: usize, side: Side) -> Result<&File, Lost> {
-        let sides = self.sides.get(rendition).ok_or(Lost)?;
+    fn side(&mut self, rendition: usize, side: Side) -> Result<&mut SideFile, Lost> {
+        let sides = self.sides.get_mut(rendition).ok_or(Lost)?;
         Ok(match side {
-            Side::A => &sides.a,
-            Side::B => &sides.b,
+            Side::A => &mut sides.a,
+            Side::B => &mut sides.b,
         })
     }
 }
@@ -185,17 +180,6 @@ impl<R: Eprint> SpoolFiles<'_, R> {
             }
         }
     }
-
-    /// Appends `bytes` to `file`.
-    fn append_to(&self, file: &File, bytes: &[u8]) -> Result<(), Lost> {
-        let mut file = file;
-        self.told(file.write_all(bytes))
-    }
-
-    /// Cuts `file` to its first `length` bytes.
-    fn cut_to(&self, file: &File, length: u64) -> Result<(), Lost> {
-        self.told(file.set_len(length))
-    }
 }
 
 impl<R: Eprint> Disk for SpoolFiles<'_, R> {
@@ -204,29 +188,36 @@ impl<R: Eprint> Disk for SpoolFiles<'_, R> {
     ghost files = { λ _. None };
 
     fn append_line(&mut self, text: &[u8]) -> Result<(), Lost> {
-        self.append_to(&self.items, text)
+        let done = self.items.write_all(text);
+        self.told(done)
     }
 
     fn append(&mut self, rendition: usize, side: Side, bytes: &[u8]) -> Result<(), Lost> {
-        self.append_to(self.file(rendition, side)?, bytes)
+        let done = self.side(rendition, side)?.append(bytes);
+        self.told(done)
     }
 
     fn clear(&mut self, rendition: usize, side: Side) -> Result<(), Lost> {
-        self.cut_to(self.file(rendition, side)?, 0)
+        self.side(rendition, side)?.clear();
+        Ok(())
     }
 
     fn cut_text(&mut self, length: u64) -> Result<(), Lost> {
-        self.cut_to(&self.items, length)
+        self.told(self.items.set_len(length))
     }
 
     fn cut(&mut self, rendition: usize, side: Side, length: u64) -> Result<(), Lost> {
-        self.cut_to(self.file(rendition, side)?, length)
+        let done = self.side(rendition, side)?.cut(length);
+        self.told(done)
     }
 
     fn read(&self, rendition: usize, place: Place, bytes: &mut [u8]) -> bool {
-        match self.file(rendition, place.side) {
-            Ok(file) => file.read_exact_at(bytes, place.offset).is_ok(),
-            Err(Lost) => false,
+        let Some(sides) = self.sides.get(rendition) else {
+            return false;
+        };
+        match place.side {
+            Side::A => sides.a.read(place.offset, bytes),
+            Side::B => sides.b.read(place.offset, bytes),
         }
     }
 }

@@ -8,12 +8,18 @@ use ll_publish::{Refusal, Success};
 use ll_wire::Answer;
 use std::cell::Cell;
 use std::sync::Wait;
-use std::time::Clock;
+use std::thread;
+use std::time::{Clock, Duration};
 
-/// The gate of one connection. It passes each call on to the gate of all, and notes what becomes of the connection if publishers' lines are
-/// read from it.
+/// The time after which a line is answered whose channel has a secret that its connection hasn't given, in milliseconds: a stranger who
+/// tries many of them gets few answers, and takes little of the machine.
+const PAUSE: u64 = 100;
+
+/// The gate of one connection. It passes each call on to the gate of all, notes what becomes of the connection if publishers' lines are
+/// read from it, and has strangers wait.
 #[derive(Drop)]
 pub struct NotedGate<'a, G, R> {
+    rt: &'a R,
     gate: &'a G,
     notes: Option<&'a Notes<'a, R>>,
     remote: Remote,
@@ -32,11 +38,13 @@ pub struct NotedGate<'a, G, R> {
 impl<'a, G, R: Clock + Wait> NotedGate<'a, G, R> {
     /// Returns the gate of a connection from `remote`, which passes its calls on to `gate`, and adds to `notes`, if there are some.
     pub fn new(
+        rt: &'a R,
         gate: &'a G,
         notes: Option<&'a Notes<'a, R>>,
         remote: Remote,
     ) -> NotedGate<'a, G, R> {
         NotedGate {
+            rt,
             gate,
             notes,
             remote,
@@ -131,6 +139,9 @@ impl<G: Gate, R: Clock + Wait> Gate for NotedGate<'_, G, R> {
     fn told(&self, told: &Result<Success, Refusal>) {
         if let Err(refusal) = told {
             self.refuse(None, *refusal);
+            if *refusal == Refusal::NotAllowed {
+                thread::sleep(self.rt, Duration::from_millis(PAUSE));
+            }
         }
         self.gate.told(told);
     }

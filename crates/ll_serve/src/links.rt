@@ -226,8 +226,9 @@ fn serve_counted<
     requires parts { blank.parts ≡ M.parts }
     requires two { blank.parts ≡ 2 }
 {
-    let gate = NotedGate::new(noting.service.gate, noting.notes, link.remote());
-    let service = with_gate(noting.service, &gate);
+    let service = noting.service;
+    let gate = NotedGate::new(service.rt, service.gate, noting.notes, link.remote());
+    let service = with_gate(service, &gate);
     let mut counted: CountedLink<P, M> = CountedLink::new(link, blank);
     let served = serve_link(&service, noting.role, &mut counted, pass);
     gate.ended(ending_of(&served));
