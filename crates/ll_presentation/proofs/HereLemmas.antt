@@ -1,5 +1,5 @@
 -- What is kept of a rendition says the same as all its items.
-use Rattle.std.proofs.Common.{◌≡◌, ℕ, ◌<◌, ◌≤◌, List, Bool, true, false, ◌||◌, cond, nat_lt, Option, Some, None, is_some, option_map, length, refl, ap, ap₂, ◌∙◌, sym, arith, subst, slice_index_or}
+use Rattle.std.proofs.Common.{◌≡◌, ℕ, ◌<◌, List, Bool, true, false, ◌||◌, cond, nat_lt, Option, Some, None, is_some, option_map, length, refl, ap, ap₂, ◌∙◌, sym, arith, subst, slice_index_or}
 use Rattle.std.specs.Prelude.{slice_get}
 use Rattle.std.proofs.lemmas.Option.{slice_get_read}
 use Rattle.std.proofs.lemmas.Bool.Decides.{nat_tests}

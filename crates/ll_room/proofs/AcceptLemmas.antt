@@ -1,5 +1,5 @@
 -- A room that takes one more item stands for its events and that one.
-use Rattle.std.proofs.Common.{◌≡◌, ℕ, ◌+◌, ◌≤◌, List, [], ◌∷◌, ◌++◌, Bool, true, false, cond, nat_lt, Option, Some, None, is_none, refl, ap, ap₂, sym, ◌∙◌, filter, map, length, append-nil}
+use Rattle.std.proofs.Common.{◌≡◌, ℕ, ◌≤◌, List, [], ◌∷◌, ◌++◌, Bool, true, false, cond, nat_lt, Option, None, is_none, refl, ap, ap₂, sym, ◌∙◌, filter, map, length, append-nil}
 use Rattle.std.specs.Prelude.{slice_get}
 use Rattle.ll_item.specs.Items.{rendition_of}
 use Rattle.ll_settings.specs.Settings.{Configuration}
@@ -13,7 +13,7 @@ use Rattle.ll_window.specs.Segments.{own}
 use Rattle.ll_verdict.specs.Accepted.{refusal}
 use Rattle.ll_rendition.specs.Refusal.{first_refusal, rendition_refusal}
 use Rattle.ll_verdict.specs.Events.{Event, Publish, items, time, taken}
-use Rattle.ll_verdict.specs.State.{State, state_of, settle, stays, next}
+use Rattle.ll_verdict.specs.State.{state_of, settle, stays, next}
 use Rattle.ll_verdict.specs.Verdict.{media_of, media_or_none}
 use Rattle.ll_verdict.specs.declared.reply.Settled.TheVariants.{Text}
 use Rattle.ll_verdict.proofs.ListLemmas.{Each, each-map}

@@ -1,5 +1,5 @@
 -- One more request of a room: its answer, and what the room stands for then.
-use Rattle.std.proofs.Common.{◌≡◌, ℕ, ◌+◌, ◌≤◌, ◌<◌, List, [], ◌∷◌, ◌++◌, Bool, true, false, cond, nat_le, nat_lt, not, Option, option_map, is_some, Some, None, length, refl, ap, ap₂, ◌∙◌, sym, filter, map, append-nil, arith, subst}
+use Rattle.std.proofs.Common.{◌≡◌, ℕ, ◌+◌, ◌≤◌, ◌<◌, List, [], ◌∷◌, ◌++◌, Bool, true, false, cond, nat_le, not, Option, option_map, is_some, Some, None, length, refl, ap, ap₂, ◌∙◌, sym, filter, map, append-nil, arith, subst}
 use Rattle.std.proofs.lemmas.Bool.Decides.{nat_tests}
 use Rattle.ll_settings.specs.Settings.{Configuration}
 use Rattle.ll_directive.specs.Targets.{WantValue}

@@ -1,5 +1,5 @@
 -- What is kept goes on with the item, and its pages are of that moment.
-use Rattle.std.proofs.Common.{ap, ap₂, length, refl, subst, sym, ◌∙◌}
+use Rattle.std.proofs.Common.{ap, ap₂, length, subst, sym, ◌∙◌}
 use Rattle.ll_item.specs.Items.{rendition_of}
 use Rattle.ll_page.specs.Page.{Moment}
 use Rattle.ll_page_cache.proofs.StoredLemmas.{few-length}
