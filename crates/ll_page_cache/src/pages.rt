@@ -85,6 +85,13 @@ impl Pages {
         pieces
     }
 
+    /// Returns the channel at that moment.
+    pub fn shown(&self) -> &Shown
+        ensures { result.now ≡ self.now.moment }
+    {
+        &self.shown
+    }
+
     /// Returns the index of the rendition.
     pub fn rendition(&self) -> usize
         ensures { result ≡ self.now.rendition }

@@ -1,36 +1,31 @@
 -- One more request of a room: its answer, and what the room stands for then.
-use Rattle.std.proofs.Common.{◌≡◌, ℕ, ◌+◌, ◌≤◌, ◌<◌, List, [], ◌∷◌, ◌++◌, Bool, true, false, ◌||◌, cond, nat_le, nat_lt, not, Option, option_map, is_some, Some, None, length, refl, ap, ap₂, ◌∙◌, sym, filter, map, append-nil, arith, subst, slice_index_or}
-use Rattle.std.specs.Prelude.{slice_get}
-use Rattle.std.proofs.lemmas.Option.{slice_get_read}
+use Rattle.std.proofs.Common.{◌≡◌, ℕ, ◌+◌, ◌≤◌, ◌<◌, List, [], ◌∷◌, ◌++◌, Bool, true, false, cond, nat_le, not, Option, option_map, is_some, Some, None, length, refl, ap, ap₂, ◌∙◌, sym, filter, map, append-nil, arith, subst}
 use Rattle.std.proofs.lemmas.Bool.Decides.{nat_tests}
 use Rattle.ll_settings.specs.Settings.{Configuration}
-use Rattle.ll_item.specs.declared.item.Item.{Item}
 use Rattle.ll_directive.specs.Targets.{WantValue}
 use Rattle.ll_pieces.specs.View.{Paged}
-use Rattle.ll_rendition.specs.declared.rendition.Rendition.{Rendition}
-use Rattle.ll_page.proofs.RenditionLemmas.{length-renditions, rendition-got}
 use Rattle.ll_directive.specs.Files.{is_playlist}
-use Rattle.ll_store.proofs.StoresStep.{store-got}
-use Rattle.ll_store.specs.Stores.{media_by}
-use Rattle.ll_room.proofs.StoreLemmas.{kept-there}
-use Rattle.ll_window.specs.Compact.{Compact, compact}
-use Rattle.ll_window.specs.Segments.{own, ended}
+use Rattle.ll_window.specs.Segments.{own}
 use Rattle.std.proofs.lemmas.List.{map-append}
 use Rattle.ll_verdict.specs.Waiting.{AreBelow, ticket_in}
 use Rattle.ll_verdict.specs.Events.{Event, Ask, items, time}
 use Rattle.ll_verdict.specs.State.{State, state_of, settle, stays, slot_by, answer_of, next, waiting_in}
-use Rattle.ll_verdict.specs.Verdict.{at_once, held, is_hinted, is_there, media_of, page_of, piece_of, wanted_of, waiting_limit}
+use Rattle.ll_verdict.specs.Verdict.{is_hinted, is_there, media_of, page_of, piece_of, wanted_of, waiting_limit}
 use Rattle.ll_verdict.specs.Verdict as verdict
 use Rattle.ll_verdict.specs.declared.entry.Slot.{Slot}
 use Rattle.ll_verdict.specs.declared.reply.Reply.{Reply}
 use Rattle.ll_verdict.specs.declared.reply.Reply.TheVariants as now
 use Rattle.ll_verdict.specs.declared.wanted.Wanted.{Wanted}
-use Rattle.ll_room.specs.Decided.{media_here, page_now, reply_here}
-use Rattle.ll_room.specs.RoomValue.{RoomValue, Stands, room_value, less, tickets}
+use Rattle.ll_item.specs.declared.item.Item.{Item}
+use Rattle.ll_presentation.proofs.HereLemmas.{media-is, page-here, piece-here}
+use Rattle.ll_presentation.specs.PresentationValue.{Shows}
+use Rattle.ll_presentation.specs.Here.{media_here, page_now}
+use Rattle.ll_room.specs.Decided.{reply_here}
+use Rattle.ll_room.specs.RoomValue.{RoomValue, Stands, less, presentation_in, room_value, tickets}
 use Rattle.ll_room.specs.Kept.{with_answer, with_held}
 use Rattle.ll_room.proofs.IdleLemmas.{idle, same_slots}
 use Rattle.ll_room.proofs.KeptLemmas.{newest}
-use Rattle.ll_room.proofs.StandLemmas.{all_stay, stands-by}
+use Rattle.ll_room.proofs.StandLemmas.{all_stay, stands-by, told}
 
 -- the state that a room stands for
 abbrev of : RoomValue → List Event → State
@@ -125,88 +120,52 @@ or_other : (n : ℕ) (a : Wanted) (o : Option (List ℕ)) (other : Option Reply)
 or_other n a None other h = refl
 or_other n a (Some bytes) other h = cc
 
-within_channel : (h : RoomValue) (es : List Event) (r : ℕ) → Stands h es → r < length h.renditions → nat_lt r (length h.settings.renditions) ≡ true
-within_channel h es r stands within =
-    let many : length h.renditions ≡ length h.settings.renditions = ap (λ (x : RoomValue). length x.renditions) stands ∙ length-renditions h.settings (items h.settings es) in
-    grind (arith, nat_tests, within, many)
-
 -- the media is that of the state
-pub media-is : (h : RoomValue) (es : List Event) (a : Wanted) → Stands h es → a.rendition < length h.renditions → media_here h a ≡ media_of h.settings (items h.settings es) a
-media-is h es a stands within =
-    let c = h.settings in
-    let its = items c es in
-    let named = within_channel h es a.rendition stands within in
-    let below : a.rendition < length c.renditions = grind (arith, nat_tests, named) in
-    ap (λ (x : RoomValue). media_here x a) stands
-    ∙ ap₂ (media_by a.what) (kept-there c its a.rendition named) (store-got c its a.rendition below)
+here-is : (h : RoomValue) (es : List Event) (a : Wanted) → Stands h es → a.rendition < length h.renditions → media_of h.settings (items h.settings es) a ≡ media_here (presentation_in h) a
+here-is h es a stands within = sym (media-is (presentation_in h) (items h.settings es) a (ap presentation_in stands) within)
 
-pub media-there : (h : RoomValue) (es : List Event) (w : WantValue) (a : Wanted) → Stands h es → wanted_of h.settings w ≡ Some a → is_playlist a.what ≡ false
-    → a.rendition < length h.renditions → is_some (media_here h a) ≡ true → answer_of h.settings (of h es) w ≡ reply_here h a
-media-there h es w a stands e p within found =
-    let c = h.settings in
-    let s = of h es in
-    let is = media-is h es a stands within in
-    media_known c s w a (media_here h a) _ _ e p (sym is) refl refl
-    ∙ or_there (length s.items) a (media_here h a) _ found
-    ∙ ap (λ n. option_map (λ bytes. now.Media (piece_of n a bytes)) (media_here h a)) (sym (ap (λ (x : RoomValue). x.count) stands))
-    ∙ sym (ap (λ x. cond x (Some (now.Text (page_now h a))) (option_map (λ bytes. now.Media (piece_of h.count a bytes)) (media_here h a))) p)
-
-pub here-some : (h : RoomValue) (a : Wanted) → is_playlist a.what ≡ false → is_some (media_here h a) ≡ true → is_some (reply_here h a) ≡ true
-here-some h a p found =
-    ap (λ x. is_some (cond x (Some (now.Text (page_now h a))) (option_map (λ bytes. now.Media (piece_of h.count a bytes)) (media_here h a)))) p ∙ some-mapped (media_here h a) found
-  where
-    some-mapped : (o : Option (List ℕ)) → is_some o ≡ true → is_some (option_map (λ bytes. now.Media (piece_of h.count a bytes)) o) ≡ true
-    some-mapped None e = cc
-    some-mapped (Some bytes) e = refl
+pub media-reply : (h : RoomValue) (es : List Event) (w : WantValue) (a : Wanted) → Stands h es → wanted_of h.settings w ≡ Some a → is_playlist a.what ≡ false
+    → a.rendition < length h.renditions → is_some (media_here (presentation_in h) a) ≡ true → answer_of h.settings (of h es) w ≡ reply_here h a
+media-reply h es w a stands e p within found =
+    let o = media_here (presentation_in h) a in
+    media_known h.settings (of h es) w a o _ _ e p (here-is h es a stands within) refl refl
+    ∙ or_there (length (of h es).items) a o _ found
+    ∙ ap (λ n. option_map (λ bytes. now.Media (piece_of n a bytes)) o) (sym (ap (λ (x : RoomValue). x.count) stands))
+    ∙ sym (piece-here (presentation_in h) a p)
 
 pub media-missing : (h : RoomValue) (es : List Event) (w : WantValue) (a : Wanted) (hinted busy : Bool) → Stands h es → wanted_of h.settings w ≡ Some a
-    → is_playlist a.what ≡ false → a.rendition < length h.renditions → is_some (media_here h a) ≡ false
+    → is_playlist a.what ≡ false → a.rendition < length h.renditions → is_some (media_here (presentation_in h) a) ≡ false
     → is_hinted h.settings (own a.rendition (items h.settings es)) a.awaited ≡ hinted → nat_le waiting_limit (waiting_in (of h es).slots) ≡ busy
     → answer_of h.settings (of h es) w ≡ without_media hinted busy
 media-missing h es w a hinted busy stands e p within none f b =
-    media_known h.settings (of h es) w a (media_here h a) hinted busy e p (sym (media-is h es a stands within)) f b
-    ∙ or_other (length (of h es).items) a (media_here h a) (without_media hinted busy) none
+    let o = media_here (presentation_in h) a in
+    media_known h.settings (of h es) w a o hinted busy e p (here-is h es a stands within) f b
+    ∙ or_other (length (of h es).items) a o (without_media hinted busy) none
 
 -- the page is that of the state
-pub page-is : (h : RoomValue) (es : List Event) (a : Wanted) → Stands h es → page_now h a ≡ page_of h.settings (items h.settings es) a
-page-is h es a stands = ap (λ (x : RoomValue). page_now x a) stands
+pub page-reply : (h : RoomValue) (es : List Event) (a : Wanted) → Stands h es → is_playlist a.what ≡ true → Some (now.Text (page_of h.settings (items h.settings es) a)) ≡ reply_here h a
+page-reply h es a stands p =
+    ap (λ x. Some (now.Text (page_now x a))) (sym (ap presentation_in stands)) ∙ sym (page-here (presentation_in h) a p)
 
--- the window of a rendition
-pub window-is : (h : RoomValue) (es : List Event) (r : ℕ) (k : Rendition) → Stands h es → slice_get h.renditions r ≡ Some k
-    → k.window ≡ compact h.settings (own r (items h.settings es))
-window-is h es r k stands e =
-    ap (λ (x : Rendition). x.window) (rendition-got h.settings (items h.settings es) r k (sym (ap (λ (x : RoomValue). slice_get x.renditions r) stands) ∙ e)).1
+-- a presentation says the same of the events as of its items
 
-told-at : {B : Type 0} (h : RoomValue) (es : List Event) (r : ℕ) (k : Rendition) (b : B) (f : Configuration → List Item → B) → Stands h es
-    → slice_get h.renditions r ≡ Some k → ((its : List Item) → k.window ≡ compact k.window.settings its → b ≡ f k.window.settings its)
-    → b ≡ f h.settings (own r (items h.settings es))
-told-at h es r k b f stands got told =
-    let own_items = own r (items h.settings es) in
-    let w = window-is h es r k stands got in
-    let same : k.window.settings ≡ h.settings = ap (λ (x : Compact). x.settings) w in
-    told own_items (w ∙ ap (λ d. compact d own_items) (sym same)) ∙ ap (λ d. f d own_items) same
+pub told-there : (h i : RoomValue) (es : List Event) (a : Wanted) (b : Bool) → Stands h es → i ≡ h
+    → ((its : List Item) → Shows (presentation_in i) its → b ≡ is_there i.settings its a) → is_there h.settings (items h.settings es) a ≡ b
+told-there h i es a b stands e all = sym (told (λ c its. b ≡ is_there c its a) h i es stands e all)
 
--- a rendition says the same as the events
-pub told-there : (h : RoomValue) (es : List Event) (a : Wanted) (k : Rendition) (b : Bool) → Stands h es → slice_get h.renditions a.rendition ≡ Some k
-    → ((its : List Item) → k.window ≡ compact k.window.settings its → b ≡ (verdict.holds k.window.settings its a.awaited || ended its))
-    → b ≡ is_there h.settings (items h.settings es) a
-unfolding is_there
-told-there h es a k b stands got told = told-at h es a.rendition k b (λ c its. verdict.holds c its a.awaited || ended its) stands got told
+pub told-far : (h i : RoomValue) (es : List Event) (a : Wanted) (b : Bool) → Stands h es → i ≡ h
+    → ((its : List Item) → Shows (presentation_in i) its → b ≡ verdict.far i.settings (own a.rendition its) a.awaited)
+    → verdict.far h.settings (own a.rendition (items h.settings es)) a.awaited ≡ b
+told-far h i es a b stands e all = sym (told (λ c its. b ≡ verdict.far c (own a.rendition its) a.awaited) h i es stands e all)
 
-pub told-far : (h : RoomValue) (es : List Event) (a : Wanted) (k : Rendition) (b : Bool) → Stands h es → slice_get h.renditions a.rendition ≡ Some k
-    → ((its : List Item) → k.window ≡ compact k.window.settings its → b ≡ verdict.far k.window.settings its a.awaited)
-    → b ≡ verdict.far h.settings (own a.rendition (items h.settings es)) a.awaited
-told-far h es a k b stands got told = told-at h es a.rendition k b (λ c its. verdict.far c its a.awaited) stands got told
+pub told-hinted : (h i : RoomValue) (es : List Event) (a : Wanted) (b : Bool) → Stands h es → i ≡ h
+    → ((its : List Item) → Shows (presentation_in i) its → b ≡ is_hinted i.settings (own a.rendition its) a.awaited)
+    → is_hinted h.settings (own a.rendition (items h.settings es)) a.awaited ≡ b
+told-hinted h i es a b stands e all = sym (told (λ c its. b ≡ is_hinted c (own a.rendition its) a.awaited) h i es stands e all)
 
-pub told-hinted : (h : RoomValue) (es : List Event) (a : Wanted) (k : Rendition) (b : Bool) → Stands h es → slice_get h.renditions a.rendition ≡ Some k
-    → ((its : List Item) → k.window ≡ compact k.window.settings its → b ≡ is_hinted k.window.settings its a.awaited)
-    → b ≡ is_hinted h.settings (own a.rendition (items h.settings es)) a.awaited
-told-hinted h es a k b stands got told = told-at h es a.rendition k b (λ c its. is_hinted c its a.awaited) stands got told
-
-pub got-at : (h i : RoomValue) (r : ℕ) (k : Rendition) → i ≡ h → r < length h.renditions → k ≡ slice_index_or i.renditions r k → slice_get h.renditions r ≡ Some k
-got-at h i r k e within at =
-    ap (λ (x : RoomValue). slice_get x.renditions r) (sym e)
-    ∙ slice_get_read i.renditions (length i.renditions) r k refl (subst (λ (x : RoomValue). r < length x.renditions) (sym e) within) at
+pub media-told : (h i : RoomValue) (a : Wanted) (b found : Bool) → i ≡ h → found ≡ is_some (media_here (presentation_in i) a) → found ≡ b
+    → is_some (media_here (presentation_in h) a) ≡ b
+media-told h i a b found e is so = ap (λ x. is_some (media_here (presentation_in x) a)) (sym e) ∙ sym is ∙ so
 
 pub low : (h i : RoomValue) → i ≡ h → 1 ≤ i.settings.target → 1 ≤ h.settings.target
 low h i e n = subst (λ (x : RoomValue). 1 ≤ x.settings.target) e n

@@ -1,24 +1,21 @@
 -- Each step keeps the invariant of a room.
-use Rattle.std.proofs.Common.{◌≡◌, not, ◌||◌, ◌==◌, true≢false, ◌≤◌, ◌<◌, ℕ, ◌+◌, ◌^◌, List, [], ◌∷◌, Bool, true, false, cond, length, filter, map, refl, ap, ◌∙◌, sym, subst, suc, arith, ◌++◌, None, length-append}
+use Rattle.std.proofs.Common.{◌≡◌, not, ◌||◌, ◌==◌, true≢false, ◌≤◌, ◌<◌, ℕ, ◌+◌, ◌^◌, List, [], ◌∷◌, Bool, true, false, cond, length, filter, map, refl, ap, ◌∙◌, sym, subst, suc, arith, ◌++◌, Option, None, Some, length-append}
 use Rattle.std.specs.List.{list_any}
 use Rattle.ll_verdict.specs.declared.entry.Slot.{Slot}
 use Rattle.ll_book.specs.Release.{expired, is_over, over_if}
 use Rattle.ll_verdict.specs.Waiting.{AreBelow, without, has_ticket, ticket_in}
-use Rattle.ll_page.specs.Page.{Moment}
 use Rattle.ll_room.specs.RoomValue.{RoomValue, less}
 use Rattle.ll_room.specs.Kept.{IsKept, with_answer}
-use Rattle.ll_page_cache.specs.Stored.{AreFew}
-use Rattle.ll_page_cache.specs.Written.{WrittenOf}
-use Rattle.ll_page_cache.proofs.WrittenLemmas.{none-written}
 use Rattle.std.proofs.lemmas.Bool.Decides.{nat_tests}
 use Rattle.ll_settings.proofs.WithinLimits.{within}
 use Rattle.ll_settings.specs.Settings.{Configuration, limit_broken}
-use Rattle.ll_pieces.specs.View.{renditions}
-use Rattle.ll_page.proofs.RenditionLemmas.{length-renditions}
-use Rattle.ll_rendition.specs.declared.rendition.Rendition.{Rendition}
-use Rattle.ll_store.specs.Media.{StoreValue}
 use Rattle.ll_verdict.specs.declared.entry.Entry.{Entry}
-use Rattle.ll_verdict.specs.Full.{event_end}
+use Rattle.ll_item.specs.declared.item.Item.{Item}
+use Rattle.ll_presentation.specs.PresentationValue.{PresentationValue, presentation_of}
+use Rattle.ll_rendition.specs.Refusal.{first_refusal}
+use Rattle.ll_rendition.specs.declared.fault.PublishFault.{PublishFault}
+use Rattle.ll_room.specs.Full.{refusal_by}
+use Rattle.ll_verdict.specs.Full.{event_end, full_by, is_full}
 
 -- ---- when requests come
 
@@ -31,13 +28,10 @@ below-new a s [] h r = (h, tt)
 below-new a s (t ∷ ss) h r = (r.0, below-new a s ss h r.1)
 
 -- a request that is answered at once
-pub kept-answer : (h : RoomValue) (w : WrittenOf) → h.events < event_end → IsKept h w → IsKept (with_answer h) w
-kept-answer h w few k = record {
-  current = k.current;
-  stored = k.stored;
+pub kept-answer : (h : RoomValue) → h.events < event_end → IsKept h → IsKept (with_answer h)
+kept-answer h few k = record {
   target = k.target;
   window = k.window;
-  each = k.each;
   accepted = omega (arith, k.accepted);
   asked = omega (arith, k.asked);
   early = k.early;
@@ -47,16 +41,13 @@ kept-answer h w few k = record {
 }
 
 -- a request that is held
-pub kept-held : (h : RoomValue) (w : WrittenOf) (e : Entry) (ss : List Slot) → h.events < event_end → e.ticket ≡ h.asks + 1
-    → ss ≡ h.slots ++ (record { entry = e; settled = None }) ∷ [] → IsKept h w
-    → IsKept (record h { asks = h.asks + 1; slots = ss; events = h.events + 1 }) w
-kept-held h w e ss few t is k =
+pub kept-held : (h : RoomValue) (e : Entry) (ss : List Slot) → h.events < event_end → e.ticket ≡ h.asks + 1
+    → ss ≡ h.slots ++ (record { entry = e; settled = None }) ∷ [] → IsKept h
+    → IsKept (record h { asks = h.asks + 1; slots = ss; events = h.events + 1 })
+kept-held h e ss few t is k =
     let many : length ss ≡ length h.slots + 1 = ap length is ∙ length-append h.slots ((record { entry = e; settled = None }) ∷ []) in record {
-      current = k.current;
-      stored = k.stored;
       target = k.target;
       window = k.window;
-      each = k.each;
       accepted = omega (arith, k.accepted);
       asked = omega (arith, k.asked);
       early = k.early;
@@ -67,33 +58,25 @@ kept-held h w e ss few t is k =
       counted = omega (arith, few, k.few, k.asked, many);
     }
 
-new_kept : (channel : ℕ) (c : Configuration) (kept : List Rendition) (stored : List StoreValue) (w : WrittenOf) (ss : List Slot) → 1 ≤ c.target → 1 ≤ c.window → kept ≡ renditions c [] → w.pages ≡ [] → AreFew w.pieces kept → ss ≡ []
-    → IsKept (record { channel = channel; settings = c; renditions = kept; stores = stored; count = 0; time = 0; asks = 0; slots = ss; events = 0 }) w
-new_kept channel c kept stored w ss low some is unwritten few none = record {
-  current = none-written _ w.pages unwritten;
-  stored = few;
-  target = low;
-  window = some;
-  each = ap length is ∙ length-renditions c [];
-  accepted = omega arith;
-  asked = omega arith;
-  early = omega arith;
-  below = subst (AreBelow 1) (sym none) tt;
-  few = omega (arith, ap length none);
-  counted = omega (arith, ap length none);
-}
-
 some_window : (c : Configuration) → limit_broken c ≡ None → 1 ≤ c.window
 some_window c h = let limits = within c h in omega (arith, limits.target_low, limits.window_low)
 
 -- nothing has happened
-pub kept-new : (channel : ℕ) (c : Configuration) (m : Moment) (kept : List Rendition) (stored : List StoreValue) (w : WrittenOf) (ss : List Slot)
-    → m ≡ record { settings = c; renditions = kept; count = 0 } → 1 ≤ c.target → limit_broken c ≡ None → kept ≡ renditions c [] → w.pages ≡ [] → AreFew w.pieces kept → ss ≡ []
-    → IsKept (record { channel = channel; settings = m.settings; renditions = m.renditions; stores = stored; count = m.count; time = 0; asks = 0; slots = ss; events = 0 }) w
-kept-new channel c m kept stored w ss made low within_limits is unwritten few none =
-    subst
-    (λ (n : Moment). IsKept (record { channel = channel; settings = n.settings; renditions = n.renditions; stores = stored; count = n.count; time = 0; asks = 0; slots = ss; events = 0 }) w)
-    (sym made) (new_kept channel c kept stored w ss low (some_window c within_limits) is unwritten few none)
+pub kept-new : (channel : ℕ) (c : Configuration) (p : PresentationValue) (ss : List Slot) → p ≡ presentation_of c [] → 1 ≤ c.target → limit_broken c ≡ None → ss ≡ []
+    → IsKept (record { channel = channel; settings = p.settings; renditions = p.renditions; stores = p.stores; count = p.count; time = 0; asks = 0; slots = ss; events = 0 })
+kept-new channel c p ss is low within_limits none =
+    subst (λ (q : PresentationValue). IsKept (record { channel = channel; settings = q.settings; renditions = q.renditions; stores = q.stores; count = q.count; time = 0; asks = 0; slots = ss; events = 0 }))
+    (sym is)
+    (record {
+      target = low;
+      window = some_window c within_limits;
+      accepted = omega arith;
+      asked = omega arith;
+      early = omega arith;
+      below = subst (AreBelow 1) (sym none) tt;
+      few = omega (arith, ap length none);
+      counted = omega (arith, ap length none);
+    })
 
 -- the newest ticket is above all others
 left_by : (t : ℕ) (s : Slot) (ss : List Slot) → s.entry.ticket < t → filter (λ n. not (n == t)) (map ticket_in ss ++ t ∷ []) ≡ map ticket_in ss
@@ -107,6 +90,18 @@ pub newest : (t : ℕ) (ss : List Slot) → AreBelow t ss → less t (map ticket
 newest t [] r =
     let it : not (t == t) ≡ false = grind (arith, nat_tests) in ap (λ b. cond b (t ∷ []) []) it
 newest t (s ∷ ss) r = left_by t s ss r.0 (newest t ss r.1)
+
+second_none : (f g : Option PublishFault) → first_refusal f g ≡ None → g ≡ None
+second_none None g e = e
+second_none (Some f) g e = absurd (cc)
+
+few_by : (b : Bool) (n : ℕ) → is_full n ≡ b → full_by b ≡ None → n < event_end
+few_by true n e h = absurd (cc)
+few_by false n e h = grind (arith, nat_tests)
+
+-- a channel that accepts an item has taken fewer events than it takes
+pub free-few : (h : RoomValue) (i : Item) → refusal_by h i ≡ None → h.events < event_end
+free-few h i free = few_by (is_full h.events) h.events refl (second_none _ _ free)
 
 pub few-events : (h k : RoomValue) → h ≡ k → k.events < event_end → h.events < event_end
 few-events h k e few = subst (λ (x : RoomValue). x.events < event_end) (sym e) few
@@ -145,17 +140,14 @@ clock_counted : (events slots : ℕ) → events < 2 ^ 60 → slots ≤ events �
 clock_counted events slots h k = omega (arith, h, k)
 
 -- the clock
-pub clock-kept : (h : RoomValue) (w : WrittenOf) (time : ℕ) (slots : List Slot) → IsKept h w
+pub clock-kept : (h : RoomValue) (time : ℕ) (slots : List Slot) → IsKept h
     → h.events < 2 ^ 60 → time ≤ 2 ^ 60 → slots ≡ map (expired time) h.slots
-    → IsKept (record h { time = time; slots = slots; events = h.events + 1 }) w
-clock-kept h w time slots k room early e =
+    → IsKept (record h { time = time; slots = slots; events = h.events + 1 })
+clock-kept h time slots k room early e =
     let long : length slots ≡ length h.slots = ap length e ∙ long_expired time h.slots in
     record {
-      current = k.current;
-      stored = k.stored;
       target = k.target;
       window = k.window;
-      each = k.each;
       accepted = omega (arith, k.accepted);
       asked = omega (arith, k.asked);
       early = early;
@@ -178,16 +170,13 @@ lost t (s ∷ ss) h = lost_by s (without t ss) ss (s.entry.ticket == t) (list_an
 abbrev with_left : RoomValue → List Slot → RoomValue
 with_left h slots = record h { slots = slots; events = h.events + 1 }
 
-pub leave-kept : (h : RoomValue) (w : WrittenOf) (t : ℕ) (slots : List Slot) → IsKept h w
-    → slots ≡ without t h.slots → list_any (has_ticket t) h.slots ≡ true → IsKept (with_left h slots) w
-leave-kept h w t slots k e there =
+pub leave-kept : (h : RoomValue) (t : ℕ) (slots : List Slot) → IsKept h
+    → slots ≡ without t h.slots → list_any (has_ticket t) h.slots ≡ true → IsKept (with_left h slots)
+leave-kept h t slots k e there =
     let fewer : length slots < length h.slots = subst (λ ss. length ss < length h.slots) (sym e) (lost t h.slots there) in
     record {
-      current = k.current;
-      stored = k.stored;
       target = k.target;
       window = k.window;
-      each = k.each;
       accepted = omega (arith, k.accepted);
       asked = omega (arith, k.asked);
       early = k.early;
@@ -197,5 +186,5 @@ leave-kept h w t slots k e there =
     }
 
 -- if none leaves
-pub same-kept : (h : RoomValue) (w : WrittenOf) (slots : List Slot) → IsKept h w → slots ≡ h.slots → IsKept (record h { slots = slots }) w
-same-kept h w slots k e = subst (λ ss. IsKept (record h { slots = ss }) w) (sym e) k
+pub same-kept : (h : RoomValue) (slots : List Slot) → IsKept h → slots ≡ h.slots → IsKept (record h { slots = slots })
+same-kept h slots k e = subst (λ ss. IsKept (record h { slots = ss })) (sym e) k

@@ -8,6 +8,4 @@ pub mod KeptLemmas
 pub mod PublishLemmas
 pub mod SettleLemmas
 pub mod StandLemmas
-pub mod StandingLemmas
-pub mod StoreLemmas
 pub mod TicketLemmas

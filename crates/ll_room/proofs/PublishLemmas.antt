@@ -1,13 +1,17 @@
 -- What one more item makes of what is kept of the renditions.
-use Rattle.std.proofs.Common.{◌≡◌, ℕ, suc, ◌+◌, ◌<◌, ◌==◌, List, [], ◌∷◌, Bool, true, false, ◌&&◌, ◌||◌, cond, Option, None, Some, is_none, refl, ap, ap₂, sym, subst, ◌∙◌, true≢false, filter, map, length, arith}
-use Rattle.std.specs.Prelude.{slice_get}
+use Rattle.std.proofs.Common.{◌≡◌, ℕ, suc, ◌+◌, ◌≤◌, ◌<◌, ◌==◌, List, [], ◌∷◌, Bool, true, false, ◌&&◌, ◌||◌, cond, Option, None, Some, is_none, refl, ap, ap₂, sym, subst, ◌∙◌, true≢false, filter, map, length, arith}
+use Rattle.std.specs.Prelude.{slice_get, slice_index_or}
 use Rattle.std.specs.List.{list_any}
 use Rattle.ll_item.specs.Items.{rendition_of}
 use Rattle.ll_item.specs.declared.item.Item.{Item}
 use Rattle.ll_item.specs.declared.item.Item.TheVariants as item
 use Rattle.ll_directive.specs.declared.want.Awaited.{Awaited}
 use Rattle.ll_directive.specs.declared.want.Awaited.TheVariants.{Nothing, Segment, Part}
-use Rattle.ll_page.specs.Page.{Moment}
+use Rattle.ll_page_cache.specs.Pages.{PagesOf}
+use Rattle.ll_presentation.proofs.HereLemmas.{got-at}
+use Rattle.ll_presentation.proofs.RefusalLemmas.{allowed-there, first_none}
+use Rattle.ll_presentation.specs.PresentationValue.{PresentationValue, moment}
+use Rattle.ll_settings.specs.Settings.{Configuration}
 use Rattle.ll_rendition.specs.declared.rendition.Rendition.{Rendition}
 use Rattle.ll_window.specs.Compact.{Compact}
 use Rattle.ll_verdict.specs.State.{is_waiting}
@@ -17,17 +21,13 @@ use Rattle.ll_verdict.specs.Waiting.{AreBelow, ticket_in}
 use Rattle.ll_book.specs.declared.release.Release.{Release}
 use Rattle.ll_book.specs.declared.release.Release.TheVariants as release
 use Rattle.ll_book.proofs.Holding.{release-law}
-use Rattle.ll_book.specs.Releases.{HasHolders, HasThose, released_with, segment_if, takes_any}
-use Rattle.ll_room.specs.Coming.{IsComing, changed, pages_in, supply_in}
-use Rattle.ll_room.specs.Freed.{AreApart, freed, freed_slots, new_pages, new_supply, part_in, releases, releases_at, with_item, with_stores}
-use Rattle.ll_store.specs.Media.{StoreValue}
+use Rattle.ll_book.specs.Releases.{HasHolders, HasThose, part_of, released_with, segment_if, takes_any}
+use Rattle.ll_book.specs.declared.next_part.NextPart.{NextPart}
+use Rattle.ll_room.specs.Freed.{AreApart, freed, freed_slots, item_on, new_supply, part_at, part_in, releases, releases_at, with_item}
 use Rattle.ll_verdict.specs.Full.{event_end}
-use Rattle.ll_room.specs.RoomValue.{RoomValue}
+use Rattle.ll_room.specs.Full.{refusal_by}
+use Rattle.ll_room.specs.RoomValue.{RoomValue, presentation_in}
 use Rattle.ll_room.specs.Kept.{IsKept}
-use Rattle.ll_page_cache.specs.Stored.{AreFew}
-use Rattle.ll_page_cache.specs.Written.{AreWritten, WrittenOf}
-use Rattle.ll_page_cache.proofs.WrittenLemmas.{none-written, one-written}
-use Rattle.ll_room.specs.declared.publish.Coming.{Coming}
 
 -- the releases take none of these
 
@@ -120,6 +120,10 @@ same_holders supply first second (s ∷ ss) h =
     (takes second (given_if supply (takes first s) s)) (takes second s) (second_kept supply first second s (takes first s) h refl)
     (same_holder supply (takes first s) s) (same_holders supply first second ss h)
 
+pub has-holders : (supply : Supply) (which : Option Release) (h now : RoomValue) (found : Option HoldersValue) → h ≡ now → HasHolders supply which now.slots found
+    → HasHolders supply which h.slots found
+has-holders supply which h now found e has = subst (λ (x : RoomValue). HasHolders supply which x.slots found) (sym e) has
+
 pub has-those : (supply : Supply) (which : Option Release) (ss : List Slot) (found : Option HoldersValue) → HasHolders supply which ss found → HasThose which found ss
 has-those supply None ss found h = tt
 has-those supply (Some which) ss None h = h
@@ -184,18 +188,13 @@ length_tickets : (ss : List Slot) → length (map ticket_in ss) ≡ length ss
 length_tickets [] = refl
 length_tickets (s ∷ ss) = ap suc (length_tickets ss)
 
-pub kept-item : (h : RoomValue) (w now : WrittenOf) (kept : List Rendition) (ss : List Slot) → h.events < event_end → IsKept h w
-    → AreWritten (record { settings = h.settings; renditions = kept; count = h.count + 1 }) now.pages → AreFew now.pieces kept
-    → length kept ≡ length h.renditions → map ticket_in ss ≡ map ticket_in h.slots
-    → IsKept (record h { renditions = kept; count = h.count + 1; slots = ss; events = h.events + 1 }) now
-kept-item h w now kept ss few k current stored many same =
+pub kept-item : (h : RoomValue) (p : PresentationValue) (ss : List Slot) → h.events < event_end → IsKept h → p.settings ≡ h.settings → p.count ≡ h.count + 1
+    → map ticket_in ss ≡ map ticket_in h.slots → IsKept (item_on p ss h)
+kept-item h p ss few k settings more same =
     let long : length ss ≡ length h.slots = sym (length_tickets ss) ∙ ap length same ∙ length_tickets h.slots in record {
-      current = current;
-      stored = stored;
-      target = k.target;
-      window = k.window;
-      each = many ∙ k.each;
-      accepted = omega (arith, k.accepted);
+      target = subst (λ (c : Configuration). 1 ≤ c.target) (sym settings) k.target;
+      window = subst (λ (c : Configuration). 1 ≤ c.window) (sym settings) k.window;
+      accepted = omega (arith, k.accepted, more);
       asked = omega (arith, k.asked);
       early = k.early;
       below = below_by (h.asks + 1) ss h.slots same k.below;
@@ -203,75 +202,34 @@ kept-item h w now kept ss few k current stored many same =
       counted = omega (arith, few, k.few, k.asked, long);
     }
 
--- the bytes for players are no part of it
-kept-stores : (h : RoomValue) (w : WrittenOf) (ss : List StoreValue) → IsKept h w → IsKept (with_stores h ss) w
-kept-stores h w ss k = record {
-  current = k.current;
-  stored = k.stored;
-  target = k.target;
-  window = k.window;
-  each = k.each;
-  accepted = k.accepted;
-  asked = k.asked;
-  early = k.early;
-  below = k.below;
-  few = k.few;
-  counted = k.counted;
-}
+-- the room after one more item that releases nothing
+pub silent-item : (h now : RoomValue) (p : PresentationValue) (i : Item) → h ≡ now → takes_any (releases now i).0 now.slots ≡ false
+    → takes_any (releases now i).1 now.slots ≡ false → item_on p h.slots h ≡ with_item now p i
+silent-item h now p i e first second =
+    ap (λ (x : RoomValue). item_on p x.slots x) e
+    ∙ ap (λ ss. item_on p ss now) (sym (silent-slots (new_supply now p i) (releases now i) now.slots first second))
 
--- the room after one more item that releases nothing, of which no page is written
-pub silent-kept : (h : RoomValue) (w now : WrittenOf) (m : Moment) (ss : List StoreValue) → h.events < event_end → IsKept h w → now.pages ≡ []
-    → AreFew now.pieces m.renditions → length m.renditions ≡ length h.renditions
-    → m ≡ record { settings = h.settings; renditions = m.renditions; count = h.count + 1 }
-    → IsKept (record h { settings = m.settings; renditions = m.renditions; stores = ss; count = m.count; events = h.events + 1 }) now
-silent-kept h w now m ss few k none stored many e =
-    let after : Moment = record { settings = h.settings; renditions = m.renditions; count = h.count + 1 } in
-    subst (λ (n : Moment). IsKept (record h { settings = n.settings; renditions = n.renditions; stores = ss; count = n.count; events = h.events + 1 }) now) (sym e)
-    (kept-stores (record h { renditions = m.renditions; count = h.count + 1; events = h.events + 1 }) now ss
-    (kept-item h w now m.renditions h.slots few k (none-written after now.pages none) stored many refl))
+-- the part that it is, by what is kept of its rendition
+pub part-got : (h now : RoomValue) (i : Item) (k : Rendition) (o : Option NextPart) → h ≡ now → refusal_by now i ≡ None
+    → k ≡ slice_index_or h.renditions (rendition_of i) k → o ≡ part_of k.window i → o ≡ part_in now i
+part-got h now i k o e free at is =
+    let there = allowed-there now.renditions i (slice_get now.renditions (rendition_of i)) refl (first_none _ _ free) in
+    is ∙ sym (ap (λ q. part_at q i) (got-at (presentation_in now) (presentation_in h) (rendition_of i) k (ap presentation_in e) there at))
 
--- the room after one more item that releases nothing, or of which these are the open requests
-abbrev pub item_on : List Rendition → List Slot → RoomValue → RoomValue
-item_on kept ss h = record h { renditions = kept; count = h.count + 1; slots = ss; events = h.events + 1 }
+-- the room after one more item and its releases; `supply` is what was made for them
+pub released-item : (h now : RoomValue) (p : PresentationValue) (i : Item) (both : Option Release × Option Release) (supply : Supply) (slots : List Slot) → h ≡ now
+    → both ≡ releases now i → moment p ≡ supply.pages.moment → supply.pages.rendition ≡ rendition_of i → supply.part ≡ part_in now i
+    → slots ≡ freed_slots supply both h.slots → item_on p slots h ≡ with_item now p i
+released-item h now p i both supply slots e its shown place part is =
+    let pages_are : supply.pages ≡ record { moment = moment p; rendition = rendition_of i } =
+    ap₂ (λ m r. let x : PagesOf = record { moment = m; rendition = r } in x) (sym shown) place in
+    let supply_is : supply ≡ new_supply now p i = ap₂ (λ q o. let x : Supply = record { pages = q; part = o } in x) pages_are part in
+    ap (λ ss. item_on p ss h) is
+    ∙ ap₂ (λ q b. item_on p (freed_slots q b h.slots) h) supply_is its
+    ∙ ap (λ (x : RoomValue). item_on p (freed_slots (new_supply now p i) (releases now i) x.slots) x) e
 
--- the room in which the channel is shown so
-abbrev pub shown_on : Moment → List Slot → RoomValue → RoomValue
-shown_on m ss h = record h { settings = m.settings; renditions = m.renditions; count = m.count; slots = ss; events = h.events + 1 }
-
-pub shown-item : (m : Moment) (ss : List Slot) (h : RoomValue) → m ≡ record { settings = h.settings; renditions = m.renditions; count = h.count + 1 }
-    → shown_on m ss h ≡ item_on m.renditions ss h
-shown-item m ss h e = ap (λ (n : Moment). shown_on n ss h) e
-
-pub silent-item : (h now : RoomValue) (kept : List Rendition) (i : Item) → h ≡ now → takes_any (releases now i).0 now.slots ≡ false
-    → takes_any (releases now i).1 now.slots ≡ false → item_on kept h.slots h ≡ with_item now kept i
-silent-item h now kept i e first second =
-    ap (λ (x : RoomValue). item_on kept x.slots x) e
-    ∙ ap (λ ss. item_on kept ss now) (sym (silent-slots (new_supply now kept i) (releases now i) now.slots first second))
-
-pub released-item : (h : RoomValue) (i : Item) (first second : Option Release) (x : Coming) → (first, second) ≡ releases h i → x.rendition ≡ rendition_of i
-    → x.part ≡ part_in h i → IsComing h first second x → changed h first second x ≡ with_item h x.shown.renditions i
-released-item h i first second x both r part is =
-    let pages_are : pages_in x ≡ new_pages h x.shown.renditions i = ap₂ (λ m q. record { moment = m; rendition = q }) is.shown r in
-    let supply_is : supply_in x ≡ new_supply h x.shown.renditions i = ap₂ (λ p q. record { pages = p; part = q }) pages_are part in
-    ap₂ (λ p q. item_on x.shown.renditions (freed_slots p q h.slots) h) supply_is both
-
--- the room that takes over what was made is kept true
-pub kept-change : (h : RoomValue) (w now : WrittenOf) (first second : Option Release) (x : Coming) (new final : List Slot) → h.events < event_end → IsKept h w
-    → now.pages ≡ x.pages.items → AreFew now.pieces x.shown.renditions
-    → AreApart (first, second) → IsComing h first second x → new ≡ released_with first x.first h.slots → final ≡ released_with second x.second new
-    → IsKept (item_on x.shown.renditions final h) now
-kept-change h w now first second x new final few k written stored apart is e f =
-    let slots : final ≡ freed_slots (supply_in x) (first, second) h.slots =
-    f ∙ both-released (supply_in x) (first, second) h.slots new x.first x.second apart is.has_first is.has_second e in
-    kept-item h w now x.shown.renditions final few k (one-written _ now.pages (pages_in x) (written ∙ is.pages) is.shown) stored is.many
-    (ap (map ticket_in) slots ∙ same-tickets (supply_in x) (first, second) h.slots)
-
-pub coming-of : (h now : RoomValue) (first second : Option Release) (x : Coming) → h ≡ now → IsComing now first second x → IsComing h first second x
-coming-of h now first second x e is = subst (λ (r : RoomValue). IsComing r first second x) (sym e) is
-
-pub changed-is : (h now : RoomValue) (first second : Option Release) (x : Coming) (new final : List Slot) → h ≡ now → AreApart (first, second)
-    → IsComing h first second x → new ≡ released_with first x.first h.slots → final ≡ released_with second x.second new
-    → item_on x.shown.renditions final h ≡ changed now first second x
-changed-is h now first second x new final e apart is f g =
-    ap (λ ss. item_on x.shown.renditions ss h) (g ∙ both-released (supply_in x) (first, second) h.slots new x.first x.second apart is.has_first is.has_second f)
-    ∙ ap (λ (r : RoomValue). changed r first second x) e
+-- the open requests of a room after both releases
+pub slots-released : (supply : Supply) (both : Option Release × Option Release) (ss new final : List Slot) (found more : Option HoldersValue) → AreApart both
+    → HasHolders supply both.0 ss found → HasHolders supply both.1 ss more → new ≡ released_with both.0 found ss → final ≡ released_with both.1 more new
+    → final ≡ freed_slots supply both ss
+slots-released supply both ss new final found more apart h k e f = f ∙ both-released supply both ss new found more apart h k e

@@ -1,31 +1,20 @@
 -- What a request would get if it were made now, decided before it is made.
-use Rattle.std.specs.Prelude.{◌≡◌, ◌<◌, ⊤, ℕ, List, Option, Some, None, if◌then◌else◌, is_some, length, option_map, true}
-use Rattle.ll_directive.specs.Files.{is_playlist}
+use Rattle.std.specs.Prelude.{◌≡◌, ◌<◌, ⊤, List, Option, Some, None, is_some, length, true}
 use Rattle.ll_directive.specs.Targets.{WantValue}
-use Rattle.ll_store.specs.Stores.{media_at}
+use Rattle.ll_presentation.specs.Here as here
 use Rattle.ll_verdict.specs.Events.{Event}
 use Rattle.ll_verdict.specs.State.{waiting_in}
-use Rattle.ll_verdict.specs.Verdict.{at_once, held, piece_of, waiting_limit, wanted_of}
+use Rattle.ll_verdict.specs.Verdict.{at_once, held, waiting_limit, wanted_of}
 use Rattle.ll_verdict.specs.declared.reply.Reply.{Reply}
 use Rattle.ll_verdict.specs.declared.reply.Reply.TheVariants as now
-use Rattle.ll_pieces.specs.View.{Paged}
-use Rattle.ll_page.specs.Page.{seen_of}
 use Rattle.ll_verdict.specs.declared.wanted.Wanted.{Wanted}
-use Rattle.ll_room.specs.RoomValue.{RoomValue, Stands, moment}
+use Rattle.ll_room.specs.RoomValue.{RoomValue, Stands, presentation_in}
 use Rattle.ll_room.specs.declared.decision.Decision.{Decision}
 use Rattle.ll_room.specs.declared.decision.Decision.TheVariants.{NotFound, There, TooFar, Busy, Waits}
 
--- the playlist or delta update as it is now
-abbrev pub page_now : RoomValue → Wanted → Paged
-page_now h a = record { seen = seen_of (moment h) a.rendition; form = a.form }
-
--- the bytes of the requested media as they are now, if it is there
-abbrev pub media_here : RoomValue → Wanted → Option (List ℕ)
-media_here h a = media_at h.renditions h.stores a.rendition a.what
-
 -- the requested playlist or media as it is now, if it is there
 abbrev pub reply_here : RoomValue → Wanted → Option Reply
-reply_here h a = if is_playlist a.what then Some (now.Text (page_now h a)) else option_map (λ bytes. now.Media (piece_of h.count a bytes)) (media_here h a)
+reply_here h a = here.reply_here (presentation_in h) a
 
 -- the reply at once, if there is one
 abbrev pub reply_in : RoomValue → Decision → Option Reply

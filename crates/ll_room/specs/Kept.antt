@@ -1,19 +1,14 @@
 -- For private contracts: the invariant of a room.
-use Rattle.std.specs.Prelude.{◌≡◌, ◌≤◌, ◌+◌, ◌*◌, ◌^◌, ◌++◌, [], ◌∷◌, None, length}
+use Rattle.std.specs.Prelude.{◌≤◌, ◌+◌, ◌*◌, ◌^◌, ◌++◌, [], ◌∷◌, None, length}
 use Rattle.ll_verdict.specs.Waiting.{AreBelow}
 use Rattle.ll_verdict.specs.declared.wanted.Wanted.{Wanted}
-use Rattle.ll_room.specs.RoomValue.{RoomValue, moment}
-use Rattle.ll_page_cache.specs.Stored.{AreFew}
-use Rattle.ll_page_cache.specs.Written.{AreWritten, WrittenOf}
+use Rattle.ll_room.specs.RoomValue.{RoomValue}
 
-pub record IsKept (h : RoomValue) (w : WrittenOf) : Type 0 where
-  pub current : AreWritten (moment h) w.pages
-  pub stored : AreFew w.pieces h.renditions
+pub record IsKept (h : RoomValue) : Type 0 where
   -- a request that waits is not due when it is made
   pub target : 1 ≤ h.settings.target
   -- the last finished segment is in the window
   pub window : 1 ≤ h.settings.window
-  pub each : length h.renditions ≡ length h.settings.renditions
   pub accepted : h.count ≤ h.events
   pub asked : h.asks ≤ h.events
   pub early : h.time ≤ 2 ^ 60

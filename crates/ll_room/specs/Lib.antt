@@ -1,5 +1,4 @@
 pub mod Answers
-pub mod Coming
 pub mod Decided
 pub mod Freed
 pub mod Full

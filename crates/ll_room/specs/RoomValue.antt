@@ -2,8 +2,8 @@
 use Rattle.std.specs.Prelude.{◌≡◌, ℕ, List, [], ◌∷◌, Bool, false, filter, length, map, not, ◌==◌}
 use Rattle.std.specs.List.{list_any}
 use Rattle.ll_settings.specs.Settings.{Configuration}
-use Rattle.ll_page.specs.Page.{Moment}
 use Rattle.ll_pieces.specs.View.{renditions}
+use Rattle.ll_presentation.specs.PresentationValue.{PresentationValue}
 use Rattle.ll_rendition.specs.declared.rendition.Rendition.{Rendition}
 use Rattle.ll_store.specs.Media.{StoreValue}
 use Rattle.ll_store.specs.Stores.{stores}
@@ -45,9 +45,13 @@ room_value channel c s = record {
   events = s.events;
 }
 
--- the channel as it is now
-abbrev pub moment : RoomValue → Moment
-moment h = record { settings = h.settings; renditions = h.renditions; count = h.count }
+-- what is kept of the channel's items
+abbrev pub presentation_in : RoomValue → PresentationValue
+presentation_in h = record { settings = h.settings; renditions = h.renditions; stores = h.stores; count = h.count }
+
+-- the room with `p` as what is kept of its channel's items
+abbrev pub with_presentation : RoomValue → PresentationValue → RoomValue
+with_presentation h p = record h { settings = p.settings; renditions = p.renditions; stores = p.stores; count = p.count }
 
 -- a room stands for `events`: it is what is kept of them
 abbrev pub Stands : RoomValue → List Event → Type 0

@@ -1,16 +1,12 @@
 //! Requests: each gets a reply at once, or is held (blocking playlist reload, section 6.2.5.2).
-ghost use Rattle.std.specs.Prelude.{◌≡◌, ◌+◌, ◌<◌, ◌≤◌, ◌++◌, ◌∷◌, [], List, IfOk, IsErrOf, MatchOption, None, OnOk, OnErr, Some, false, is_some, length, option_map, true};
+ghost use Rattle.std.specs.Prelude.{◌≡◌, ◌+◌, ◌<◌, ◌≤◌, ◌++◌, ◌∷◌, [], List, IfOk, IsErrOf, OnOk, OnErr, Some, false, length, true};
 ghost use Rattle.ll_directive.specs.Files.{is_playlist};
-ghost use Rattle.ll_pieces.specs.View.{update_in};
-ghost use Rattle.ll_window.specs.Segments.{own};
-ghost use Rattle.ll_verdict.specs.Events.{Event, Ask, items};
-ghost use Rattle.ll_verdict.specs.Outcome.{outcome_of};
+ghost use Rattle.ll_verdict.specs.Events.{Event, Ask};
 ghost use Rattle.ll_verdict.specs.State.{waiting_in};
 ghost use Rattle.ll_verdict.specs.Verdict.{at_once, held, waiting_limit, wanted_of};
-ghost use Rattle.ll_verdict.specs.Verdict as verdict;
 ghost use Rattle.ll_directive.specs.Targets.{WantValue};
 ghost use Rattle.ll_room.specs.Answers.{asked, new_tickets, others};
-ghost use Rattle.ll_room.specs.Decided.{IsDecided, IsDecidedOfOne, media_here, page_now, reply_here};
+ghost use Rattle.ll_room.specs.Decided.{IsDecided, IsDecidedOfOne};
 ghost use Rattle.ll_verdict.specs.Full.{event_end};
 ghost use Rattle.ll_room.specs.RoomValue.{IsSame, Stands, tickets};
 ghost use Rattle.ll_room.specs.Kept.{with_answer, with_held};
@@ -22,10 +18,8 @@ use crate::room::{EVENT_END, Room};
 use crate::stamped::{Stamp, Stamped};
 use ll_book::ParkFault;
 use ll_directive::Want;
-use ll_item::{SkipKind, What};
-use ll_page::Page;
-use ll_store::{Found, find_at};
-use ll_verdict::{AskFault, Entry, MediaReply, Reply, Wanted, is_far, is_hinted, is_there};
+use ll_item::What;
+use ll_verdict::{AskFault, Entry, Reply, Wanted};
 use std::alloc::AllocError;
 
 /// The milliseconds that a request waits for each second of the target duration: three target durations.
@@ -66,9 +60,7 @@ impl Room {
     pub fn decide(&self, want: &Want) -> Decision
         ensures { IsDecided self.now want.now result }
     {
-        // Serves the proof alone.
-        let _ = &self.shown;
-        let Some(wanted) = self.wanted(want) else {
+        let Some(wanted) = self.presentation.wanted(want) else {
             return Decision::NotFound;
         };
         match wanted.what {
@@ -84,12 +76,10 @@ impl Room {
         requires playlist { is_playlist wanted.what ≡ true }
         ensures { IsDecided self.now _want.now result }
     {
-        // Serves the proof alone: there are as many renditions as names.
-        let _ = &self.shown;
-        if self.is_there(&wanted) {
+        if self.presentation.is_there(&wanted) {
             return Decision::There(wanted);
         }
-        if self.is_far(&wanted) {
+        if self.presentation.is_far(&wanted) {
             return Decision::TooFar;
         }
         if self.book.is_busy() {
@@ -105,12 +95,10 @@ impl Room {
         requires media { is_playlist wanted.what ≡ false }
         ensures { IsDecided self.now _want.now result }
     {
-        // Serves the proof alone: there are as many renditions as names.
-        let _ = &self.shown;
-        if self.has_media(&wanted) {
+        if self.presentation.has_media(&wanted) {
             return Decision::There(wanted);
         }
-        if !self.is_hinted(&wanted) {
+        if !self.presentation.is_hinted(&wanted) {
             return Decision::NotFound;
         }
         if self.book.is_busy() {
@@ -132,11 +120,11 @@ impl Room {
         ensures unchanged { OnErr result (self.new ≡ self.old) }
     {
         // Serves the proof alone: a request waits for some time.
-        let _ = &self.shown;
+        let _ = &self.presentation;
         match decision {
             Decision::NotFound => Ok(self.answer(want, Reply::NotFound)),
             Decision::There(wanted) => {
-                let reply = self.reply_here(&wanted)?;
+                let reply = self.presentation.reply(&wanted)?;
                 Ok(self.answer(want, reply))
             }
             Decision::TooFar => Ok(self.answer(want, Reply::TooFar)),
@@ -155,138 +143,13 @@ impl Room {
         ensures unchanged { OnErr result (self.new ≡ self.old) }
     {
         // Serves the proof alone: a request waits for some time.
-        let _ = &self.shown;
+        let _ = &self.presentation;
         if let Decision::Waits(wanted) = decision {
             self.hold(wanted)?.spend();
         } else {
             self.count_ask();
         }
         Ok(())
-    }
-
-    /// Returns what `want` asks of its rendition, or `None` if the channel has none of that name.
-    fn wanted(&self, want: &Want) -> Option<Wanted>
-        ensures { result ≡ wanted_of self.now.settings want.now }
-    {
-        let rendition = self.shown.settings().rendition(want.rendition())?;
-        Some(Wanted {
-            rendition,
-            what: want.what(),
-            awaited: want.awaited(),
-            form: want.skip(),
-        })
-    }
-
-    /// Returns whether what a request awaits is there, or its rendition has ended.
-    fn is_there(&self, wanted: &Wanted) -> bool
-        requires { wanted.now.rendition < length self.now.renditions }
-        ensures { (events : List Event) → Stands self.now events
-            → result ≡ verdict.is_there self.now.settings (items self.now.settings events) wanted.now }
-    {
-        is_there(
-            &self.shown.renditions()[wanted.rendition].window,
-            wanted.awaited,
-        )
-    }
-
-    /// Returns whether what a request awaits is too far ahead to be waited for.
-    fn is_far(&self, wanted: &Wanted) -> bool
-        requires { wanted.now.rendition < length self.now.renditions }
-        ensures { (events : List Event) → Stands self.now events
-            → result ≡ verdict.far self.now.settings (own wanted.now.rendition (items self.now.settings events)) wanted.now.awaited }
-    {
-        is_far(
-            &self.shown.renditions()[wanted.rendition].window,
-            wanted.awaited,
-        )
-    }
-
-    /// Returns whether what a request awaits is the next part of its rendition.
-    fn is_hinted(&self, wanted: &Wanted) -> bool
-        requires { wanted.now.rendition < length self.now.renditions }
-        ensures { (events : List Event) → Stands self.now events
-            → result ≡ verdict.is_hinted self.now.settings (own wanted.now.rendition (items self.now.settings events)) wanted.now.awaited }
-    {
-        is_hinted(
-            &self.shown.renditions()[wanted.rendition].window,
-            wanted.awaited,
-        )
-    }
-
-    /// Returns the requested media, or `None` if it isn't there.
-    fn media(&self, wanted: &Wanted) -> Option<Found<'_>>
-        ensures { MatchOption result (media_here self.now wanted.now ≡ None) (λ found. media_here self.now wanted.now ≡ Some found) }
-    {
-        find_at(
-            self.shown.renditions(),
-            &self.stores,
-            wanted.rendition,
-            wanted.what,
-        )
-    }
-
-    /// Returns whether the requested media is there.
-    fn has_media(&self, wanted: &Wanted) -> bool
-        ensures { result ≡ is_some (media_here self.now wanted.now) }
-    {
-        self.media(wanted).is_some()
-    }
-
-    /// Returns how many bytes the requested media has, or `None` if it isn't there.
-    pub(crate) fn media_length(&self, wanted: &Wanted) -> Option<u64>
-        ensures { result ≡ option_map length (media_here self.now wanted.now) }
-    {
-        let found = self.media(wanted)?;
-        Some(found.len())
-    }
-
-    /// Returns the requested playlist, delta update or media as it is now.
-    fn reply_here(&mut self, wanted: &Wanted) -> Result<Reply, AllocError>
-        requires within { wanted.now.rendition < length self.old.renditions }
-        requires here { is_some (reply_here self.old wanted.now) ≡ true }
-        ensures reply { IfOk result (λ reply. reply_here self.old wanted.now ≡ Some reply) }
-        ensures unchanged { self.new ≡ self.old }
-    {
-        match wanted.what {
-            What::Playlist => Ok(Reply::Text(self.page(wanted)?)),
-            _ => Ok(Reply::Media(self.piece(wanted)?)),
-        }
-    }
-
-    /// Returns the requested media as it is now, shared.
-    fn piece(&self, wanted: &Wanted) -> Result<MediaReply, AllocError>
-        requires { is_some (media_here self.now wanted.now) ≡ true }
-        ensures { IfOk result (λ piece. option_map (verdict.piece_of self.now.count wanted.now) (media_here self.now wanted.now) ≡ Some piece) }
-    {
-        // Serves the proof alone.
-        let _ = &self.shown;
-        let Some(found) = self.media(wanted) else {
-            unreachable!();
-        };
-        Ok(MediaReply {
-            bytes: found.share(self.alloc)?,
-            number: self.shown.count(),
-            rendition: wanted.rendition,
-            what: wanted.what,
-        })
-    }
-
-    /// Returns which delta update the requested playlist is now, or `None` if it is a full one.
-    pub(crate) fn update(&self, wanted: &Wanted) -> Option<SkipKind>
-        requires { wanted.now.rendition < length self.now.renditions }
-        ensures { result ≡ update_in (page_now self.now wanted.now) }
-    {
-        self.shown.view(wanted.rendition)?.update(wanted.form)
-    }
-
-    /// Returns the playlist or delta update as it is now. It is kept until the next item, and shared by all who ask for it until then.
-    fn page(&mut self, wanted: &Wanted) -> Result<Page, AllocError>
-        requires { wanted.now.rendition < length self.old.renditions }
-        ensures page { IfOk result (λ p. p ≡ page_now self.old wanted.now) }
-        ensures unchanged { self.new ≡ self.old }
-    {
-        let (rendition, form) = (wanted.rendition, wanted.form);
-        self.written.page(self.alloc, &self.shown, rendition, form)
     }
 
     /// Counts a request that is answered at once, and returns its answer.
@@ -320,8 +183,8 @@ impl Room {
         let entry = Entry {
             ticket,
             wanted,
-            seen: self.shown.count(),
-            deadline: self.time + WAIT * self.shown.settings().target(),
+            seen: self.presentation.count(),
+            deadline: self.time + WAIT * self.presentation.settings().target(),
         };
         match self.book.park(entry) {
             Ok(()) => {}

@@ -1,10 +1,9 @@
 //! What a request would get if it were made now.
-ghost use Rattle.std.specs.Prelude.{◌≡◌, ◌<◌, length, option_map};
+ghost use Rattle.std.specs.Prelude.{◌≡◌, option_map};
 ghost use Rattle.ll_verdict.specs.Outcome.{outcome_of};
-ghost use Rattle.ll_room.specs.Decided.{IsDecidedOfOne, reply_here, reply_in};
+ghost use Rattle.ll_room.specs.Decided.{IsDecidedOfOne, reply_in};
 
 use crate::room::Room;
-use ll_item::What;
 use ll_verdict::{Outcome, Wanted};
 
 /// What a request gets: the first of these that applies. It determines the reply, but for a playlist's text and the bytes of media.
@@ -30,21 +29,10 @@ impl Decision {
     {
         match self {
             Decision::NotFound => Some(Outcome::NotFound),
-            Decision::There(wanted) => outcome_here(room, wanted),
+            Decision::There(wanted) => room.presentation.outcome(wanted),
             Decision::TooFar => Some(Outcome::TooFar),
             Decision::Busy => Some(Outcome::Busy),
             Decision::Waits(_) => None,
         }
-    }
-}
-
-/// Returns the outcome of a reply with the requested playlist, delta update or media.
-fn outcome_here(room: &Room, wanted: &Wanted) -> Option<Outcome>
-    requires { wanted.now.rendition < length room.now.renditions }
-    ensures { result ≡ option_map outcome_of (reply_here room.now wanted.now) }
-{
-    match wanted.what {
-        What::Playlist => Some(Outcome::Text(room.count(), room.update(wanted))),
-        _ => Some(Outcome::Media(room.count(), room.media_length(wanted)?)),
     }
 }

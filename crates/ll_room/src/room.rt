@@ -1,7 +1,5 @@
 //! What a room keeps of its channel, and what can be read of it.
-ghost use Rattle.std.specs.Prelude.{◌≡◌, ◌<◌, ◌≤◌, ◌^◌, ◌++◌, [], IfOk, List, MatchOption, filter, find, length, option_map};
-ghost use Rattle.std.specs.Arc.{arc_value};
-ghost use Rattle.ll_pieces.specs.View as view;
+ghost use Rattle.std.specs.Prelude.{◌≡◌, ◌<◌, ◌≤◌, ◌^◌, [], IfOk, List, MatchOption, filter, find, length, option_map};
 ghost use Rattle.ll_verdict.specs.Waiting as waiting;
 ghost use Rattle.ll_verdict.specs.State.{state_of};
 ghost use Rattle.ll_room.specs.Answers.{is_open};
@@ -11,30 +9,20 @@ ghost use Rattle.ll_verdict.specs.Events.{Event, items};
 ghost use Rattle.ll_verdict.specs.Standing.{standing};
 
 use ll_book::Book;
-use ll_page::{Rendition, Shown};
-use ll_page_cache::Written;
-use ll_range::Ranges;
+use ll_presentation::Presentation;
 use ll_settings::Settings;
-use ll_store::{Store, new_stores};
 use ll_verdict::{Entry, Standing};
-use ll_window::Window;
 use std::alloc::{AllocError, Global};
 use std::marker::Model;
-use std::sync::Arc;
 
 /// The number of events after which a channel takes no more.
 pub(crate) const EVENT_END: u64 = 1 << 60;
 
-/// What is kept of one channel in place of its events: for each rendition, what playlists still show and its bytes; the channel's time; and its open
-/// requests.
+/// What is kept of one channel in place of its events: its presentation, its time, and its open requests.
 pub struct Room {
     pub(crate) alloc: Global,
     pub(crate) channel: u64,
-    /// The channel as it is now, shared with its pages.
-    pub(crate) shown: Shown,
-    /// The bytes that each rendition has for players. Pages hold none of them.
-    pub(crate) stores: Vec<Store>,
-    pub(crate) written: Written,
+    pub(crate) presentation: Presentation,
     pub(crate) time: u64,
     pub(crate) asks: u64,
     pub(crate) book: Book,
@@ -47,9 +35,7 @@ impl Drop for Room {
         let Room {
             alloc: _,
             channel: _,
-            shown: _shown,
-            stores: _stores,
-            written: _written,
+            presentation: _presentation,
             time: _,
             asks: _,
             book: _book,
@@ -61,16 +47,15 @@ impl Drop for Room {
 impl Model for Room {
     ghost use Rattle.ll_room.specs.RoomValue.{RoomValue};
     ghost use Rattle.ll_room.specs.Kept.{IsKept};
-    ghost use Rattle.ll_store.specs.Stores.{all_kept};
 
     ghost Value = { RoomValue };
 
     ghost view = { λ r. record {
       channel = r.channel;
-      settings = r.shown.settings;
-      renditions = r.shown.renditions;
-      stores = all_kept r.stores.items;
-      count = r.shown.count;
+      settings = r.presentation.settings;
+      renditions = r.presentation.renditions;
+      stores = r.presentation.stores;
+      count = r.presentation.count;
       time = r.time;
       asks = r.asks;
       slots = r.book;
@@ -79,15 +64,15 @@ impl Model for Room {
 
     ghost invariant = { λ r. IsKept (record {
       channel = r.channel;
-      settings = r.shown.settings;
-      renditions = r.shown.renditions;
-      stores = all_kept r.stores.items;
-      count = r.shown.count;
+      settings = r.presentation.settings;
+      renditions = r.presentation.renditions;
+      stores = r.presentation.stores;
+      count = r.presentation.count;
       time = r.time;
       asks = r.asks;
       slots = r.book;
       events = r.events;
-    }) r.written };
+    }) };
 }
 
 impl Room {
@@ -98,16 +83,10 @@ impl Room {
         // Serves the proof alone: no request is due when it is made, and the last finished segment is in the window.
         prove!(settings.target() >= 1);
         settings.within_limits();
-        let settings = Arc::new(alloc, settings)?;
-        let renditions = no_items(alloc, &settings)?;
-        let written = Written::new(alloc, &renditions)?;
-        let stores = new_stores(alloc, &settings)?;
         Ok(Room {
             alloc,
             channel,
-            shown: Shown::new(alloc, &settings, renditions, 0)?,
-            stores,
-            written,
+            presentation: Presentation::new(alloc, settings)?,
             time: 0,
             asks: 0,
             book: Book::new(alloc),
@@ -126,14 +105,14 @@ impl Room {
     pub fn settings(&self) -> &Settings
         ensures { result.now ≡ self.now.settings }
     {
-        self.shown.settings()
+        self.presentation.settings()
     }
 
     /// Returns how many items the channel has accepted.
     pub fn count(&self) -> u64
         ensures { result ≡ self.now.count }
     {
-        self.shown.count()
+        self.presentation.count()
     }
 
     /// Returns how many requests there were.
@@ -167,8 +146,7 @@ impl Room {
             → MatchOption result (length self.now.settings.renditions ≤ rendition)
             (λ s. (rendition < length self.now.settings.renditions) × (s ≡ standing self.now.settings (items self.now.settings events) rendition)) }
     {
-        let kept = self.shown.renditions().get(rendition)?;
-        Some(Standing::of(self.shown.count(), kept))
+        self.presentation.standing(rendition)
     }
 
     /// Returns whether the channel has taken 2^60 events.
@@ -212,19 +190,4 @@ impl Room {
     {
         self.book.find(ticket).is_some()
     }
-}
-
-/// Returns what is kept of each rendition of a channel without items, in the order of `settings`.
-fn no_items(alloc: Global, settings: &Arc<Settings>) -> Result<Vec<Rendition>, AllocError>
-    ensures { IfOk result (λ kept. kept.items ≡ view.renditions (arc_value settings.now) []) }
-{
-    let names = settings.renditions();
-    let mut renditions = Vec::with_capacity(alloc, names.len())?;
-    for name in names {
-        renditions.push(Rendition {
-            window: Window::of(alloc, Arc::try_clone(settings)?),
-            ranges: Ranges::new(alloc, settings),
-        })?;
-    }
-    Ok(renditions)
 }

@@ -1,7 +1,7 @@
 -- The request gets what was decided, and the room takes it.
-use Rattle.std.proofs.Common.{ap, subst, ◌∙◌}
-use Rattle.ll_room.specs.RoomValue.{less, tickets}
-use Rattle.ll_room.specs.Decided.{IsDecided, reply_in}
+use Rattle.std.proofs.Common.{ap, subst, sym, ◌∙◌}
+use Rattle.ll_room.specs.RoomValue.{less, tickets, with_presentation}
+use Rattle.ll_room.specs.Decided.{IsDecided, reply_here, reply_in}
 use Rattle.ll_room.specs.Kept.{with_answer}
 use Rattle.ll_room.specs.contracts.room.Room.{the_view}
 use Rattle.ll_verdict.specs.declared.reply.Reply.TheVariants as reply
@@ -18,8 +18,10 @@ returns-in-NotFound-clause-asked c es stands =
 pub returns-in_ok-reply-in-There-clause-asked : goal.returns-in_ok-reply-in-There-clause-asked
 returns-in_ok-reply-in-There-clause-asked c es stands =
     let h = c.args.self.now in
-    decided-stands h c.answer-in-There.new.self c.args.want c.args.decision c.in_ok-reply-in-There.reply c.requires.decided (ap (reply_in h) c.in-There.is ∙ c.in_ok-reply-in-There.ensures.reply)
-    (low h (the_view c.self.inside) c.self.view_is c.self.invariant.target) (c.answer-in-There.ensures.counted ∙ ap with_answer c.reply_here.ensures.unchanged) es stands
+    decided-stands h c.answer-in-There.new.self c.args.want c.args.decision c.in_ok-reply-in-There.reply c.requires.decided
+    (ap (reply_in h) c.in-There.is ∙ ap (λ x. reply_here x c.in-There.wanted) (sym c.self.view_is) ∙ c.in_ok-reply-in-There.ensures.reply)
+    (low h (the_view c.self.inside) c.self.view_is c.self.invariant.target)
+    (c.answer-in-There.ensures.counted ∙ ap (λ p. with_answer (with_presentation (the_view c.self.inside) p)) c.reply.ensures.unchanged ∙ ap with_answer c.self.view_is) es stands
 
 pub returns-in-TooFar-clause-asked : goal.returns-in-TooFar-clause-asked
 returns-in-TooFar-clause-asked c es stands =

@@ -8,7 +8,7 @@ use Rattle.ll_room.proofs.room.Room.clock.Goals as goal
 
 pub invariant_of-self : goal.invariant_of-self
 invariant_of-self c =
-    clock-kept _ c.self.inside.written c.max-now.result c.expire.new.self c.self.invariant c.if-self-ge-EVENT_END.false
+    clock-kept _ c.max-now.result c.expire.new.self c.self.invariant c.if-self-ge-EVENT_END.false
     (omega (arith, c.max-now.ensures, c.self.invariant.early, c.if-ms-gt-LAST_TIME.false)) c.expire.ensures.slots
 
 pub returns-clause-passed : goal.returns-clause-passed

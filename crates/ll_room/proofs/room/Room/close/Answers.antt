@@ -9,7 +9,7 @@ use Rattle.ll_room.proofs.room.Room.close.Goals as goal
 
 pub invariant_of-self : goal.invariant_of-self
 invariant_of-self c =
-    leave-kept _ c.self.inside.written c.ticket-ticket.result c.drop_ticket.new.self c.self.invariant c.drop_ticket.ensures.slots
+    leave-kept _ c.ticket-ticket.result c.drop_ticket.new.self c.self.invariant c.drop_ticket.ensures.slots
     (sym (open-found c.ticket-ticket.result c.self.inside.book) ∙ sym (ap is_some c.find.ensures) ∙ c.if-is_none.ensures)
 
 pub returns-clause-given_up : goal.returns-clause-given_up

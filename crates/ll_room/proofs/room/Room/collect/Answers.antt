@@ -11,7 +11,7 @@ use Rattle.ll_room.proofs.room.Room.collect.Goals as goal
 pub invariant_of-self : goal.invariant_of-self
 invariant_of-self c =
     let ready : is_some (reply_at c.ticket-ticket.result c.self.inside.book) ≡ true = sym (ap is_some c.in-Some.ensures.reply) in
-    leave-kept _ c.self.inside.written c.ticket-ticket.result c.take.new.self c.self.invariant (c.take.ensures.alone (ap is_some c.in-Some.is))
+    leave-kept _ c.ticket-ticket.result c.take.new.self c.self.invariant (c.take.ensures.alone (ap is_some c.in-Some.is))
     (open-ready c.ticket-ticket.result c.self.inside.book ready)
 
 pub returns-in-Some-clause-handed : goal.returns-in-Some-clause-handed
@@ -26,7 +26,7 @@ returns-in-Some-clause-fewer c = λ got.
 
 pub invariant_of-self-2 : goal.invariant_of-self-2
 invariant_of-self-2 c =
-    same-kept _ c.self.inside.written c.take.new.self c.self.invariant
+    same-kept _ c.take.new.self c.self.invariant
     (c.take.ensures.left ∙ unready c.ticket-ticket.result c.self.inside.book (sym c.take.ensures.reply ∙ c.in_default.is))
 
 pub returns-clause-answer : goal.returns-clause-answer

@@ -6,7 +6,7 @@ use Rattle.ll_room.proofs.room.Room.hold.Goals as goal
 
 pub invariant_of-self-2 : goal.invariant_of-self-2
 invariant_of-self-2 c =
-    kept-held (the_view c.self.inside) c.self.inside.written (record {
+    kept-held (the_view c.self.inside) (record {
       ticket = c.self.inside.asks + 1;
       wanted = c.args.wanted;
       seen = c.count.result;

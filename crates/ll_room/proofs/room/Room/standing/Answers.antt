@@ -1,14 +1,14 @@
--- What is kept of the rendition determines where it stands.
-use Rattle.std.proofs.Common.{ap, refl, slice_get, sym, ◌∙◌}
-use Rattle.std.proofs.lemmas.Option.{slice_get_read}
-use Rattle.ll_room.proofs.StandingLemmas.{stands-there}
-use Rattle.ll_room.specs.RoomValue.{RoomValue}
-use Rattle.ll_verdict.specs.Standing.{standing_of}
+-- The events that a room stands for say what its items do.
+use Rattle.std.proofs.Common.{◌≡◌, ◌<◌, ◌≤◌, length}
+use Rattle.std.specs.Prelude.{MatchOption}
+use Rattle.ll_verdict.specs.Standing.{standing}
+use Rattle.ll_room.proofs.StandLemmas.{told}
+use Rattle.ll_room.specs.contracts.room.Room.{the_view}
 use Rattle.ll_room.proofs.room.Room.standing.Goals as goal
 
 pub returns : goal.returns
-returns c = λ es stands.
-    let kept = c.in_ok-kept.kept.now in
-    let here = c.renditions.ensures ∙ ap (λ (x : RoomValue). x.renditions) c.self.view_is in
-    let there = stands-there c.args.self.now es c.args.rendition kept stands (sym (ap (λ rs. slice_get rs c.args.rendition) here) ∙ slice_get_read c.renditions.result.now _ c.args.rendition kept refl c.in_ok-kept.ensures.lookup.3.0 c.in_ok-kept.ensures.lookup.1) in
-    (there.0, c.of.ensures ∙ ap (λ n. standing_of n kept) (c.count.ensures ∙ ap (λ (x : RoomValue). x.count) c.self.view_is) ∙ there.1)
+returns c es stands =
+    told
+    (λ s its. MatchOption c.standing.result (length s.renditions ≤ c.args.rendition)
+    (λ x. (c.args.rendition < length s.renditions) × (x ≡ standing s its c.args.rendition)))
+    c.args.self.now (the_view c.self.inside) es stands c.self.view_is c.standing.ensures

@@ -5,16 +5,16 @@ use Rattle.ll_item.specs.declared.item.Item.{Item}
 use Rattle.ll_rendition.specs.declared.rendition.Rendition.{Rendition}
 use Rattle.ll_verdict.specs.Verdict as verdict
 use Rattle.ll_window.specs.Compact.{compact}
-use Rattle.ll_room.specs.contracts.room.Room.{the_view}
-use Rattle.ll_room.proofs.AskLemmas.{got-at, told-hinted}
-use Rattle.ll_room.proofs.room.Room.is_hinted.Goals as goal
+use Rattle.ll_presentation.specs.contracts.presentation.Presentation.{the_view}
+use Rattle.ll_presentation.proofs.HereLemmas.{got-at, told-far}
+use Rattle.ll_presentation.proofs.presentation.Presentation.is_far.Goals as goal
 
 pub returns : goal.returns
-returns c es stands =
+returns c items shows =
     let a = c.args.wanted.now in
     let kept = c.index-renditions-wanted.result in
-    told-hinted c.args.self.now es a kept c.is_hinted.result stands
+    told-far c.args.self.now items a kept c.is_far.result shows
     (got-at c.args.self.now (the_view c.self.inside) a.rendition kept c.self.view_is c.requires
     (c.index-renditions-wanted.is ∙ ap (λ ks. slice_index_or ks a.rendition kept) c.renditions.ensures))
-    (subst (λ (k : Rendition). (its : List Item) → k.window ≡ compact k.window.settings its → c.is_hinted.result ≡ verdict.is_hinted k.window.settings its a.awaited) (sym c.index-renditions-wanted.is)
-    c.is_hinted.ensures)
+    (subst (λ (k : Rendition). (its : List Item) → k.window ≡ compact k.window.settings its → c.is_far.result ≡ verdict.far k.window.settings its a.awaited) (sym c.index-renditions-wanted.is)
+    c.is_far.ensures)

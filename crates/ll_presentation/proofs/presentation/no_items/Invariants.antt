@@ -2,7 +2,7 @@
 use Rattle.std.proofs.Common.{◌≡◌, ◌++◌, [], drop}
 use Rattle.std.specs.Arc.{arc_value}
 use Rattle.ll_pieces.specs.View.{renditions, renditions_from}
-use Rattle.ll_room.proofs.room.no_items.Given as goal
+use Rattle.ll_presentation.proofs.presentation.no_items.Given as goal
 
 -- those so far and those of the names that are left are all of them
 abbrev pub invariant-loop-name : goal.invariant-loop-name

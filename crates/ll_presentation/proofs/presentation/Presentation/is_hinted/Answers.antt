@@ -1,21 +1,20 @@
 -- The window of a rendition determines it for all its items.
-use Rattle.std.proofs.Common.{◌≡◌, List, ap, subst, sym, ◌∙◌, ◌||◌}
+use Rattle.std.proofs.Common.{◌≡◌, List, ap, subst, sym, ◌∙◌}
 use Rattle.std.specs.Prelude.{slice_index_or}
 use Rattle.ll_item.specs.declared.item.Item.{Item}
 use Rattle.ll_rendition.specs.declared.rendition.Rendition.{Rendition}
 use Rattle.ll_verdict.specs.Verdict as verdict
 use Rattle.ll_window.specs.Compact.{compact}
-use Rattle.ll_window.specs.Segments.{ended}
-use Rattle.ll_room.specs.contracts.room.Room.{the_view}
-use Rattle.ll_room.proofs.AskLemmas.{got-at, told-there}
-use Rattle.ll_room.proofs.room.Room.is_there.Goals as goal
+use Rattle.ll_presentation.specs.contracts.presentation.Presentation.{the_view}
+use Rattle.ll_presentation.proofs.HereLemmas.{got-at, told-hinted}
+use Rattle.ll_presentation.proofs.presentation.Presentation.is_hinted.Goals as goal
 
 pub returns : goal.returns
-returns c es stands =
+returns c items shows =
     let a = c.args.wanted.now in
     let kept = c.index-renditions-wanted.result in
-    told-there c.args.self.now es a kept c.is_there.result stands
+    told-hinted c.args.self.now items a kept c.is_hinted.result shows
     (got-at c.args.self.now (the_view c.self.inside) a.rendition kept c.self.view_is c.requires
     (c.index-renditions-wanted.is ∙ ap (λ ks. slice_index_or ks a.rendition kept) c.renditions.ensures))
-    (subst (λ (k : Rendition). (its : List Item) → k.window ≡ compact k.window.settings its → c.is_there.result ≡ (verdict.holds k.window.settings its a.awaited || ended its)) (sym c.index-renditions-wanted.is)
-    c.is_there.ensures)
+    (subst (λ (k : Rendition). (its : List Item) → k.window ≡ compact k.window.settings its → c.is_hinted.result ≡ verdict.is_hinted k.window.settings its a.awaited) (sym c.index-renditions-wanted.is)
+    c.is_hinted.ensures)

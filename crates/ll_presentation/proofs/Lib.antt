@@ -1,0 +1,3 @@
+pub mod HereLemmas
+pub mod RefusalLemmas
+pub mod StepLemmas

@@ -1,0 +1,4 @@
+pub mod Current
+pub mod Here
+pub mod Items
+pub mod PresentationValue
