@@ -1,5 +1,5 @@
 -- The time of the channel after lines, and what is said of the entry that was looked for.
-use Rattle.std.proofs.Common.{◌≡◌, ℕ, suc, zero, List, ◌∷◌, Option, Some, None, refl, ap, ◌∙◌, sym, length, option_map, arith}
+use Rattle.std.proofs.Common.{◌≡◌, ℕ, suc, zero, List, [], ◌∷◌, Option, Some, None, refl, ap, ◌∙◌, sym, length, option_map, arith}
 use Rattle.ll_attr.specs.Words.{pieces_at}
 use Rattle.ll_check.proofs.Begun.{Another, EntryParts, GoesOn, Next, Onward, begun_lines, entry_line}
 use Rattle.ll_check.specs.Found.{so_far}
