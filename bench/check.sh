@@ -1,10 +1,10 @@
 #!/usr/bin/env bash
-# check.sh [ENTRIES..]: measures `llhls check` and `llhls upgrade` with records of ENTRIES entries (by default 100,000 and 1,000,000; at least 40), in
-# which each part of a second is awaited by two players, one of whom asks for a delta update, and asked for by a third who waits for nothing; then
-# with records of ten times as many entries that are requests for the playlist as it is, after ten segments; then with requests after windows of 10,
-# 100 and 1,000 segments, which should take the same time. Each record is in format 1, and is written in format 2 too, but for the last three. For
-# each it prints the entries and the bytes per second of both commands, and the ratio to the first number's; then the peak memory, and the memory that
-# a byte of the record takes. Times are the median of RUNS runs (9 if it isn't set). It judges nothing.
+# check.sh [ENTRIES..]: measures `llhls check`, `llhls explain` and `llhls upgrade` with records of ENTRIES entries (by default 100,000 and 1,000,000;
+# at least 40), in which each part of a second is awaited by two players, one of whom asks for a delta update, and asked for by a third who waits for
+# nothing; then with records of ten times as many entries that are requests for the playlist as it is, after ten segments; then with requests after
+# windows of 10, 100 and 1,000 segments, which should take the same time. Each record is in format 1, and is written in format 2 too, but for the last
+# three. For each it prints the entries and the bytes per second of the commands, and the ratio to the first number's; then the peak memory, and the
+# memory that a byte of the record takes. Times are the median of RUNS runs (9 if it isn't set). It judges nothing.
 . "$(dirname "${BASH_SOURCE[0]}")/common.sh" || exit 2
 take_program_or_proved
 runs=${RUNS:-9}
@@ -78,25 +78,27 @@ tell() {
         }'
 }
 
-# both MAKE ENTRIES: makes a record, has it checked and written in format 2, and checks it in that format too.
-both() {
+# all MAKE ENTRIES: makes a record, has it checked, summarized and written in format 2, and checks it in that format too.
+all() {
     local made bytes
     "$1" "$2" >"$room/record" 2>"$room/made"
     made=$(<"$room/made")
     bytes=$(wc -c <"$room/record")
     tell check "$made" "$bytes"
     [ "$(<"$room/answer")" = "ok $made" ] || wrong "of $made entries: $(<"$room/answer")"
+    tell explain "$made" "$bytes"
+    grep -qx "entries $made" "$room/answer" || wrong "of $made entries: $(<"$room/answer")"
     tell upgrade "$made" "$bytes"
     [ "$("$program" check "$room/answer")" = "ok $made" ] || wrong "of $made entries in format 2: $("$program" check "$room/answer")"
 }
 
 for entries in "$@"; do
-    both make "$entries"
+    all make "$entries"
 done
 echo 'requests for the playlist as it is:'
 first=()
 for entries in "$@"; do
-    both make_plain $((10 * entries))
+    all make_plain $((10 * entries))
 done
 echo 'requests for the playlist as it is, after 10, 100 and 1,000 segments:'
 first=()

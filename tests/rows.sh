@@ -99,15 +99,27 @@ printf '%s\n' 'chain 1' 'entries 65537' 'items 0' 'first reading 0' 'last readin
     'still held 65536' 'most held 65536' 'too far 0' 'not found 0' 'busy 1' >"$room/busy.stdout"
 expect explain_of_a_busy_answer "$room/busy.stdout" 0 '' explain "$room/busy" </dev/null
 
-# A record that is read in many pieces; and the same without the end of its last line, or with another line in the middle.
+# A record that is read in many pieces; and the same without the end of its last line, or with another line in the middle, before which and at which
+# entries are explained, and after which none is. A pipe can't be read again.
+printf '%s\n' 'entry 65537, at 0 ms: A 65537 hi 0 0 - busy' 'a request gets at once Busy: as many requests wait as may wait' >"$room/busy.last"
+expect explain_of_the_last_entry_of_many_pieces "$room/busy.last" 0 '' explain "$room/busy" 65537 </dev/null
+expect upgrade_of_many_pieces "$room/busy" 0 '' upgrade "$room/busy" </dev/null
+expect upgrade_of_a_pipe /dev/null 4 'llhls: Changed' upgrade /dev/stdin < <(cat "$here/check/a_held_request")
 echo 'ok 65537' >"$room/busy.checked"
 expect check_of_many_pieces "$room/busy.checked" 0 '' check "$room/busy" </dev/null
 truncate -s -1 "$room/busy"
 echo 'bad 65538 BadChunk' >"$room/busy.checked"
 expect check_of_a_last_line_that_is_cut "$room/busy.checked" 3 '' check "$room/busy" </dev/null
+expect upgrade_of_a_last_line_that_is_cut "$room/busy.checked" 3 '' upgrade "$room/busy" </dev/null
+expect explain_of_a_last_line_that_is_cut "$room/busy.checked" 3 '' explain "$room/busy" </dev/null
+expect explain_before_a_last_line_that_is_cut "$room/busy.last" 0 '' explain "$room/busy" 65537 </dev/null
 sed '40003s/.*/C 1/' "$room/busy" >"$room/busy.changed"
 echo 'bad 40001 Refused' >"$room/busy.checked"
 expect check_of_a_line_in_the_middle "$room/busy.checked" 3 '' check "$room/busy.changed" </dev/null
+expect explain_after_a_line_in_the_middle "$room/busy.checked" 3 '' explain "$room/busy.changed" 65537 </dev/null
+expect explain_of_a_line_in_the_middle "$room/busy.checked" 3 '' explain "$room/busy.changed" 40001 </dev/null
+printf '%s\n' 'entry 40000, at 0 ms: A 40000 hi 0 0 - held' 'a request is held' >"$room/busy.before"
+expect explain_before_a_line_in_the_middle "$room/busy.before" 0 '' explain "$room/busy.changed" 40000 </dev/null
 
 # expect_full NAME STATUS FAULT WORD..: runs the program with a full device as its standard output, and tests its status and its fault.
 expect_full() {

@@ -1,6 +1,7 @@
 pub mod Back
 pub mod Begun
 pub mod Few
+pub mod GoingLemmas
 pub mod HeaderLemmas
 pub mod LaterLemmas
 pub mod LineLemmas

@@ -1,5 +1,5 @@
 -- The replies of a record's entries.
-use Rattle.std.specs.Prelude.{◌≡◌, List, ◌∷◌, Option, None, Result, Ok, Err, ℕ, bytes_eq, false}
+use Rattle.std.specs.Prelude.{◌≡◌, ◌<◌, List, ◌∷◌, ◌++◌, Option, None, Result, Ok, Err, ℕ, bytes_eq, false, length, true}
 use Rattle.ll_attr.specs.Words.{pieces_at}
 use Rattle.ll_check.specs.Found.{ChainValue}
 use Rattle.ll_check.specs.Steps.{has_entry}
@@ -33,7 +33,12 @@ abbrev pub Brings : Position → List ℕ → Option Reply → List (List ℕ) �
 Brings (Inside ch) line reply lines = IsBrought ch line reply lines
 Brings (Between before) line reply lines = ⊥
 
--- no entry comes next, and what is kept stays as it is
-pub record BringsNone (old new : Option ChainValue) (p : Position) (lines : List (List ℕ)) : Type 0 where
-  pub none : has_entry p lines ≡ false
+-- no entry comes next, if the text that was read has a line with its end; and what is kept stays as it is
+pub record BringsNone (old new : Option ChainValue) (p : Position) (text more : List ℕ) : Type 0 where
+  pub none : 1 < length (pieces_at 10 text) → has_entry p (pieces_at 10 (text ++ more)) ≡ false
+  pub same : new ≡ old
+
+-- a line is the last one of its chunk, and what is kept stays as it is
+pub record IsLastOf (old new : ChainValue) (line : List ℕ) : Type 0 where
+  pub last : bytes_eq line last_line ≡ true
   pub same : new ≡ old

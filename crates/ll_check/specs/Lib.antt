@@ -2,6 +2,7 @@
 pub mod Answer
 pub mod EntryReplies
 pub mod Found
+pub mod Going
 pub mod Joined
 pub mod Lines
 pub mod Passing

@@ -46,21 +46,6 @@ pub(crate) fn cut_three(bytes: &[u8]) -> Option<FirstLines<'_>>
     })
 }
 
-/// Returns the text of the next line of a chunk after its first three, `None` for its last line; and what follows the line.
-pub(crate) fn next_line(bytes: &[u8]) -> Result<(Option<&str>, &[u8]), CheckKind>
-    ensures right { IfOk result (λ r. MatchOption r.0 (IsLast (pieces_at 10 bytes.now) (pieces_at 10 r.1.now))
-        (λ line. IsText line.now (pieces_at 10 bytes.now) (pieces_at 10 r.1.now))) }
-    ensures wrong { (ch : spec.Chain) → IfErr result (λ k. checked_from (Inside ch) (pieces_at 10 bytes.now) ≡ wrong (Some ch) k) }
-{
-    let Some((line, rest)) = cut_line(bytes) else {
-        return Err(CheckKind::BadChunk);
-    };
-    match chunk_line(line) {
-        Ok(text) => Ok((text, rest)),
-        Err(kind) => Err(kind),
-    }
-}
-
 /// Returns the text of a line of a chunk after its first three; `None` for its last line.
 pub(crate) fn chunk_line(line: &[u8]) -> Result<Option<&str>, CheckKind>
     ensures right { (rest : List (List ℕ)) → IfOk result (λ r. MatchOption r (IsLast (line.now ∷ rest) rest) (λ text. IsText text.now (line.now ∷ rest) rest)) }

@@ -1,12 +1,11 @@
 //! The check of a record that is read in pieces.
-ghost use Rattle.std.specs.Prelude.{◌≡◌, ◌+◌, ◌<◌, ◌^◌, IfErr, IfOk, List, Ok, Some, false, true, ℕ};
-ghost use Rattle.ll_check.specs.Passing.{HasPassed, HasStayed, IsWrongAt};
+ghost use Rattle.std.specs.Prelude.{◌≡◌, ◌+◌, ◌<◌, ◌^◌, IfErr, IfOk, List, Ok, Some, ℕ};
 ghost use Rattle.ll_check.specs.Unread.{IsFaultOf, IsStopped};
-ghost use Rattle.ll_check.specs.declared.told.Told.{Told};
 ghost use Rattle.ll_entry.specs.Chain.{checked};
 
-use crate::checker::Checker;
-use crate::unread::{ReadFault, Unread};
+use crate::going::go_over;
+use crate::unread::ReadFault;
+use crate::visitor::Silent;
 use ll_device::Reader;
 use ll_entry::CheckFault;
 use std::alloc::Global;
@@ -49,31 +48,5 @@ pub fn check_source<R: Reader>(alloc: Global, source: &mut R) -> Result<u64, Rec
     ensures wrong { (input : List ℕ) → R.left source.old ≡ Some input → IfErr result (IsFaultOf input) }
     ensures stopped { IfErr result (IsStopped (R.failures source.old < R.failures source.new) (R.reads source.new ≡ R.reads source.old + 2 ^ 32)) }
 {
-    let mut checker = Checker::new(alloc);
-    let mut unread = Unread::new(alloc);
-    loop {
-        if pass(&mut checker, &mut unread)? {
-            continue;
-        }
-        if !unread.read(source)? {
-            return Ok(checker.end(unread.text())?);
-        }
-    }
-}
-
-/// Checks the next lines that were read, and drops them; returns whether all of them were there.
-fn pass(checker: &mut Checker, unread: &mut Unread) -> Result<bool, CheckFault>
-    ensures passed { IfOk result (λ passed. passed ≡ true
-        → ((t : Told) × HasPassed checker.old checker.new unread.old.text unread.new.text t) × (unread.new.reads ≡ unread.old.reads)) }
-    ensures stayed { IfOk result (λ passed. passed ≡ false → HasStayed checker.old checker.new unread.old unread.new) }
-    ensures wrong { IfErr result (IsWrongAt checker.old unread.old.text) }
-{
-    let left = {
-        let Some((_told, rest)) = checker.step(unread.text())? else {
-            return Ok(false);
-        };
-        rest.len()
-    };
-    unread.keep(left);
-    Ok(true)
+    go_over(alloc, source, &mut Silent, &mut ())
 }

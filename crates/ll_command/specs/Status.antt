@@ -2,20 +2,37 @@
 use Rattle.std.specs.Prelude.{ℕ}
 use Rattle.ll_apply.specs.declared.fault.ApplyFault.{ApplyFault}
 use Rattle.ll_apply.specs.declared.fault.ApplyFault.TheVariants as apply
+use Rattle.ll_check.specs.declared.source.RecordFault.{RecordFault}
+use Rattle.ll_check.specs.declared.source.RecordFault.TheVariants.{Wrong, Unread}
 use Rattle.ll_check.specs.declared.unread.ReadFault.{ReadFault}
 use Rattle.ll_check.specs.declared.unread.ReadFault.TheVariants as unread
+use Rattle.ll_entry.specs.declared.fault.CheckKind.{CheckKind}
+use Rattle.ll_entry.specs.declared.fault.CheckKind.TheVariants as kind
 use Rattle.ll_push.specs.declared.fault.PushFault.{PushFault}
 use Rattle.ll_push.specs.declared.fault.PushFault.TheVariants as push
 use Rattle.ll_replay.specs.declared.outcome.RunFault.{RunFault}
 use Rattle.ll_replay.specs.declared.outcome.RunFault.TheVariants as run
 use Rattle.ll_command.specs.declared.fault.Fault.{Fault}
-use Rattle.ll_command.specs.declared.fault.Fault.TheVariants.{Usage, Read, Endless, Write, Memory, Replay, BadLine, NoEntry, NoRendition, BadInit, NoSegment, TooLarge, Listen, Clock, Apply, Push}
+use Rattle.ll_command.specs.declared.fault.Fault.TheVariants.{Usage, Read, Endless, Changed, Write, Memory, Replay, BadLine, NoEntry, NoRendition, BadInit, NoSegment, TooLarge, Listen, Clock, Apply, Push}
 
 -- the fault of a record that wasn't read to its end
 abbrev pub read_fault : ReadFault → Fault
 read_fault unread.Read = Read
 read_fault unread.Endless = Endless
 read_fault unread.Memory = Memory
+
+-- the fault of a record that was right, and was read again
+abbrev pub changed_by : CheckKind → Fault
+changed_by kind.BadChunk = Changed
+changed_by kind.Gap = Changed
+changed_by kind.OtherChannel = Changed
+changed_by kind.Refused = Changed
+changed_by kind.WrongReply = Changed
+changed_by kind.Memory = Memory
+
+abbrev pub changed_fault : RecordFault → Fault
+changed_fault (Wrong f) = changed_by f.kind
+changed_fault (Unread f) = read_fault f
 
 -- the status of a script's fault
 abbrev pub replay_status : RunFault → ℕ
@@ -48,6 +65,7 @@ abbrev pub status_of : Fault → ℕ
 status_of Usage = 2
 status_of Read = 4
 status_of Endless = 4
+status_of Changed = 4
 status_of Write = 4
 status_of Memory = 4
 status_of (BadLine line) = 3

@@ -4,7 +4,8 @@ ghost use Rattle.ll_command.specs.Status.{status_of};
 ghost use Rattle.ll_command.specs.Status as spec;
 
 use ll_apply::ApplyFault;
-use ll_check::ReadFault;
+use ll_check::{ReadFault, RecordFault};
+use ll_entry::{CheckFault, CheckKind};
 use ll_push::PushFault;
 use ll_replay::RunFault;
 use std::alloc::AllocError;
@@ -23,6 +24,9 @@ pub enum Fault {
     /// A record didn't end within 2^32 reads.
     #[error("Endless")]
     Endless,
+    /// A record wasn't right when it was read again.
+    #[error("Changed")]
+    Changed,
     /// Standard output took no more.
     #[error("Write")]
     Write,
@@ -86,6 +90,7 @@ impl Fault {
             Fault::NoRendition(_) | Fault::BadInit(_) | Fault::NoSegment(_) | Fault::TooLarge => 3,
             Fault::Read
             | Fault::Endless
+            | Fault::Changed
             | Fault::Write
             | Fault::Memory
             | Fault::Listen
@@ -105,6 +110,22 @@ pub(crate) fn read_fault(fault: ReadFault) -> Fault
         ReadFault::Read => Fault::Read,
         ReadFault::Endless => Fault::Endless,
         ReadFault::Memory => Fault::Memory,
+    }
+}
+
+/// Returns the fault of a record that was right, and was read again.
+pub(crate) fn changed_fault(fault: RecordFault) -> Fault
+    ensures { result ≡ spec.changed_fault fault }
+{
+    match fault {
+        RecordFault::Wrong(
+            CheckFault {
+                kind: CheckKind::Memory,
+                ..
+            },
+        ) => Fault::Memory,
+        RecordFault::Wrong(_) => Fault::Changed,
+        RecordFault::Unread(fault) => read_fault(fault),
     }
 }
 

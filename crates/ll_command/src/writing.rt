@@ -1,5 +1,5 @@
 //! Writes to standard output what the program's commands result in.
-ghost use Rattle.std.specs.Prelude.{◌≡◌, ◌≢◌, ◌+◌, ◌<◌, ◌^◌, List, ℕ, Ok, Err, Some, IfErr, IfOk, IsErrOf, IsOk, OnOk, is_ok};
+ghost use Rattle.std.specs.Prelude.{◌≡◌, ◌≢◌, ◌+◌, ◌<◌, ◌^◌, ◌⊎◌, List, ℕ, Ok, Err, Some, IfErr, IfOk, IsErr, IsErrOf, IsOk, OnOk, is_ok};
 ghost use Rattle.std.specs.Io.KnownBytes.{Appends};
 ghost use Rattle.ll_apply.specs.Texts.{applied_text};
 ghost use Rattle.ll_apply.specs.declared.fault.ApplyFault.{ApplyFault};
@@ -10,12 +10,12 @@ ghost use Rattle.ll_explain.specs.Explained.{HasNoEntry};
 ghost use Rattle.ll_explain.specs.Upgrade.{upgraded};
 ghost use Rattle.ll_explain.specs.Words.{IsExplanation};
 
-use crate::fault::{Fault, read_fault};
+use crate::fault::{Fault, changed_fault, read_fault};
 use ll_apply::apply;
 use ll_check::{RecordFault, answer_line, check_source};
 use ll_device::Reader;
 use ll_entry::{CheckFault, CheckKind};
-use ll_explain::{ExplainFault, explain, summarize, summary_text, upgrade};
+use ll_explain::{ExplainFault, UpgradeFault, explain, summarize, summary_text, upgrade};
 use std::alloc::{AllocError, Global};
 use std::io::Write;
 
@@ -57,34 +57,52 @@ pub fn write_checked<R: Reader, W: Write>(
     }
 }
 
-/// Writes a record in format 2, or how it isn't right, and returns whether it is right.
-pub fn write_upgraded<W: Write>(alloc: Global, chunks: &[u8], out: &mut W) -> Result<bool, Fault>
-    ensures written { IfOk result (λ right. (right ≡ is_ok (checked chunks.now))
-        × Appends (W.contents out.old) (W.contents out.new) (spec.upgrade_answer (checked chunks.now) (upgraded chunks.now))) }
-    ensures kinds { IfErr result (λ f. f ≢ Fault.Write → f ≡ Fault.Memory) }
+/// Writes the record that is left in `record` in format 2, or how it isn't right, and returns whether it is right. The record is read in pieces,
+/// first to check it, and then, left in `again`, to write it as it is read: the memory doesn't grow with it. Fails with `Changed` if it isn't
+/// right then.
+pub fn write_upgraded<R: Reader, S: Reader, W: Write>(
+    alloc: Global,
+    record: &mut R,
+    again: &mut S,
+    out: &mut W,
+) -> Result<bool, Fault>
+    ensures written { (input : List ℕ) → R.left record.old ≡ Some input → S.left again.old ≡ Some input → IfOk result (λ right. (right ≡ is_ok (checked input))
+        × Appends (W.contents out.old) (W.contents out.new) (spec.upgrade_answer (checked input) (upgraded input))) }
+    ensures right { (input : List ℕ) → R.left record.old ≡ Some input → IsErrOf result Fault.Changed → IsOk (checked input) }
+    ensures changed { (input : List ℕ) → S.left again.old ≡ Some input → IsErrOf result Fault.Changed → IsErr (checked input) }
+    ensures read { IsErrOf result Fault.Read → (R.failures record.old < R.failures record.new) ⊎ (S.failures again.old < S.failures again.new) }
+    ensures endless { IsErrOf result Fault.Endless
+        → (R.reads record.new ≡ R.reads record.old + 2 ^ 32) ⊎ (S.reads again.new ≡ S.reads again.old + 2 ^ 32) }
+    ensures kinds { IfErr result (λ f. f ≢ Fault.Write → f ≢ Fault.Read → f ≢ Fault.Endless → f ≢ Fault.Changed → f ≡ Fault.Memory) }
 {
-    match upgrade(alloc, chunks) {
-        Ok(text) => {
-            write_out(&text, out)?;
-            Ok(true)
-        }
-        Err(fault) => write_answer(alloc, Err(fault), out),
+    match check_source(alloc, record) {
+        Ok(_) => {}
+        Err(RecordFault::Wrong(fault)) => return write_answer(alloc, Err(fault), out),
+        Err(RecordFault::Unread(fault)) => return Err(read_fault(fault)),
+    }
+    match upgrade(alloc, again, out) {
+        Ok(()) => Ok(true),
+        Err(UpgradeFault::Write) => Err(Fault::Write),
+        Err(UpgradeFault::Record(fault)) => Err(changed_fault(fault)),
     }
 }
 
-/// Writes the explanation of entry `entry` of a record, or how the record isn't right up to it, and returns whether it is right up to it.
-/// Fails with `NoEntry` if there is no such entry.
-pub fn write_explained<W: Write>(
+/// Writes the explanation of entry `entry` of the record that is left in `source`, or how the record isn't right up to it, and returns whether
+/// it is right up to it. Fails with `NoEntry` if there is no such entry. The record is read in pieces.
+pub fn write_explained<R: Reader, W: Write>(
     alloc: Global,
-    chunks: &[u8],
+    source: &mut R,
     entry: u64,
     out: &mut W,
 ) -> Result<bool, Fault>
-    ensures written { IfOk result (λ right. (text : List ℕ) × IsExplanation chunks.now entry right text × Appends (W.contents out.old) (W.contents out.new) text) }
-    ensures none { IsErrOf result Fault.NoEntry → HasNoEntry chunks.now entry }
-    ensures kinds { IfErr result (λ f. f ≢ Fault.Write → f ≢ Fault.NoEntry → f ≡ Fault.Memory) }
+    ensures written { (input : List ℕ) → R.left source.old ≡ Some input
+        → IfOk result (λ right. (text : List ℕ) × IsExplanation input entry right text × Appends (W.contents out.old) (W.contents out.new) text) }
+    ensures none { (input : List ℕ) → R.left source.old ≡ Some input → IsErrOf result Fault.NoEntry → HasNoEntry input entry }
+    ensures read { IsErrOf result Fault.Read → R.failures source.old < R.failures source.new }
+    ensures endless { IsErrOf result Fault.Endless → R.reads source.new ≡ R.reads source.old + 2 ^ 32 }
+    ensures kinds { IfErr result (λ f. f ≢ Fault.Write → f ≢ Fault.Read → f ≢ Fault.Endless → f ≢ Fault.NoEntry → f ≡ Fault.Memory) }
 {
-    match explain(alloc, chunks, entry) {
+    match explain(alloc, source, entry) {
         Ok(explained) => match explained.text(alloc, entry) {
             Ok(text) => {
                 write_out(text.as_bytes(), out)?;
@@ -92,17 +110,25 @@ pub fn write_explained<W: Write>(
             }
             Err(AllocError) => Err(Fault::Memory),
         },
-        Err(ExplainFault::Wrong(fault)) => write_answer(alloc, Err(fault), out),
+        Err(ExplainFault::Record(RecordFault::Wrong(fault))) => write_answer(alloc, Err(fault), out),
+        Err(ExplainFault::Record(RecordFault::Unread(fault))) => Err(read_fault(fault)),
         Err(ExplainFault::NoEntry) => Err(Fault::NoEntry),
     }
 }
 
-/// Writes a summary of each chain of a record, or how the record isn't right, and returns whether it is right.
-pub fn write_summary<W: Write>(alloc: Global, chunks: &[u8], out: &mut W) -> Result<bool, Fault>
-    ensures right { IfOk result (λ right. right ≡ is_ok (checked chunks.now)) }
-    ensures kinds { IfErr result (λ f. f ≢ Fault.Write → f ≡ Fault.Memory) }
+/// Writes a summary of each chain of the record that is left in `source`, or how the record isn't right, and returns whether it is right. The
+/// record is read in pieces.
+pub fn write_summary<R: Reader, W: Write>(
+    alloc: Global,
+    source: &mut R,
+    out: &mut W,
+) -> Result<bool, Fault>
+    ensures right { (input : List ℕ) → R.left source.old ≡ Some input → IfOk result (λ right. right ≡ is_ok (checked input)) }
+    ensures read { IsErrOf result Fault.Read → R.failures source.old < R.failures source.new }
+    ensures endless { IsErrOf result Fault.Endless → R.reads source.new ≡ R.reads source.old + 2 ^ 32 }
+    ensures kinds { IfErr result (λ f. f ≢ Fault.Write → f ≢ Fault.Read → f ≢ Fault.Endless → f ≡ Fault.Memory) }
 {
-    match summarize(alloc, chunks) {
+    match summarize(alloc, source) {
         Ok(chains) => match summary_text(alloc, &chains) {
             Ok(text) => {
                 write_out(text.as_bytes(), out)?;
@@ -110,7 +136,8 @@ pub fn write_summary<W: Write>(alloc: Global, chunks: &[u8], out: &mut W) -> Res
             }
             Err(AllocError) => Err(Fault::Memory),
         },
-        Err(fault) => write_answer(alloc, Err(fault), out),
+        Err(RecordFault::Wrong(fault)) => write_answer(alloc, Err(fault), out),
+        Err(RecordFault::Unread(fault)) => Err(read_fault(fault)),
     }
 }
 

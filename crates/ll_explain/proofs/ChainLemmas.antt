@@ -1,22 +1,20 @@
 -- The chains of a record, by what its first lines say.
-use Rattle.std.proofs.Common.{◌≡◌, ◌≤◌, ◌<◌, ◌^◌, ◌+◌, ◌-◌, ℕ, zero, suc, List, [], ◌∷◌, ◌++◌, cond, length, length-append, map, Option, Some, None, Result, Ok, refl, ap, sym, subst, ◌∙◌, append_assoc, option_map, arith}
+use Rattle.std.proofs.Common.{◌≡◌, ◌≤◌, ◌<◌, ◌^◌, ◌+◌, ◌-◌, ℕ, zero, suc, List, [], ◌∷◌, ◌++◌, cond, length, length-append, map, Option, Some, None, Result, Ok, Err, OnOk, is_ok, true, true≢false, refl, ap, sym, subst, ◌∙◌, append_assoc, option_map, arith}
 use Rattle.std.proofs.lemmas.List.{append-nil}
 use Rattle.ll_attr.specs.Words.{pieces_at}
 use Rattle.ll_check.proofs.Begun.{entry_line}
+use Rattle.ll_check.proofs.GoingLemmas.{one_more}
 use Rattle.ll_check.proofs.LaterLemmas.{Keeps, keeps_begun}
-use Rattle.ll_check.proofs.Places.{first-at}
-use Rattle.ll_check.proofs.StepLemmas.{GoesTo, moved}
-use Rattle.ll_check.specs.Found.{ChainValue, IsAt, so_far}
-use Rattle.ll_check.specs.Steps.{IsOver, Moves, Tells, full_entry}
+use Rattle.ll_check.specs.Found.{so_far}
+use Rattle.ll_check.specs.Steps.{Tells, full_entry}
 use Rattle.ll_check.specs.declared.told.Told.{Told}
 use Rattle.ll_check.specs.declared.told.Told.TheVariants as told
 use Rattle.ll_entry_check.specs.Full.{without_item}
 use Rattle.ll_entry_check.specs.declared.full.FullEntry.{FullEntry}
-use Rattle.ll_entry.specs.Chain.{Between, Chain, Inside, Position, checked_from, entries, text_in, with_line}
+use Rattle.ll_entry.specs.Chain.{Between, Chain, Inside, Position, entries, text_in, with_line}
 use Rattle.ll_entry.specs.declared.fault.CheckKind.{CheckKind}
-use Rattle.ll_explain.proofs.ExplainLemmas.{one_more}
 use Rattle.ll_explain.specs.Chains.{Coming, after_chunk, after_entry, chains_in, coming, coming_by, nothing}
-use Rattle.ll_explain.specs.Counting.{joined, last_chain, with_entry, with_told}
+use Rattle.ll_explain.specs.Counting.{AreCounted, joined, last_chain, with_entry, with_told}
 use Rattle.ll_explain.specs.Summary.{summary_of}
 use Rattle.ll_explain.specs.declared.summary.Summary.{Summary}
 
@@ -108,57 +106,27 @@ few-on (Inside ch) (Inside now) told.Ended lines rest cs h few = absurd h
 
 -- ---- one step after another
 
--- what is kept has gone over lines from the start, and the summaries are those of the chains so far
-pub record Counts (kept : Option ChainValue) (lines rest : List (List ℕ)) (summaries : List Summary) : Type 0 where
-  pub now : Position
-  pub at : IsAt kept now
-  pub same : checked_from (Between None) lines ≡ checked_from now rest
-  pub chains : List (List FullEntry)
-  pub few : length (last_chain chains) ≤ entries (so_far now)
-  pub told : (coming (Between None) lines).chains ≡ joined chains (coming now rest)
-  pub are : summaries ≡ map summary_of chains
-
 -- nothing was read yet
-pub counts-first : (kept : Option ChainValue) (lines : List (List ℕ)) (summaries : List Summary) → kept ≡ None → summaries ≡ [] → Counts kept lines lines summaries
-counts-first kept lines summaries none empty = record {
-  now = Between None;
-  at = first-at kept none;
-  same = refl;
-  chains = [];
-  few = omega arith;
-  told = refl;
-  are = empty;
-}
+pub counted-first : (summaries : List Summary) (lines : List (List ℕ)) → summaries ≡ [] → AreCounted summaries (Between None) lines lines
+counted-first summaries lines empty = record { chains = []; few = omega arith; told = refl; are = empty }
 
 -- the next lines were counted
-pub counts-next : (kept new : Option ChainValue) (t : Told) (lines mid : List (List ℕ)) (rest : List ℕ) (summaries more : List Summary) (n : ℕ)
-    → Counts kept lines mid summaries → ((q : Position) → IsAt kept q → Moves new q t mid (pieces_at 10 rest))
-    → ((q : Position) → IsAt new q → n ≡ entries (so_far q)) → n ≤ 2 ^ 63
+pub counted-next : (summaries more : List Summary) (p next : Position) (t : Told) (lines mid rest : List (List ℕ)) → AreCounted summaries p lines mid
+    → Tells p t next mid rest → entries (so_far p) ≤ 2 ^ 63
     → ((before : List (List FullEntry)) → length (last_chain before) < 2 ^ 64 - 1 → summaries ≡ map summary_of before → more ≡ map summary_of (with_told before t))
-    → Counts new lines (pieces_at 10 rest) more
-counts-next kept new t lines mid rest summaries more n c on many limit counted =
-    let m = on c.now c.at in
-    let few = few-on c.now m.next t mid (pieces_at 10 rest) c.chains m.by c.few in
-    let is = many m.next m.at in
-    record {
-      now = m.next;
-      at = m.at;
-      same = c.same ∙ moved c.now m.next t mid rest m.by;
-      chains = with_told c.chains t;
-      few = few.0;
-      told = c.told ∙ tells-on c.now m.next t mid (pieces_at 10 rest) c.chains m.by;
-      are = counted c.chains (omega (arith, c.few, few.1, is, limit)) c.are;
-    }
-
-pub goes-counts : (kept : Option ChainValue) (lines rest : List (List ℕ)) (summaries : List Summary) → Counts kept lines rest summaries
-    → GoesTo kept (Between None) lines rest
-goes-counts kept lines rest summaries c = record { now = c.now; at = c.at; same = c.same }
+    → AreCounted more next lines rest
+counted-next summaries more p next t lines mid rest c by limit counted = record {
+  chains = with_told c.chains t;
+  few = (few-on p next t mid rest c.chains by c.few).0;
+  told = c.told ∙ tells-on p next t mid rest c.chains by;
+  are = counted c.chains (omega (arith, c.few, limit)) c.are;
+}
 
 -- no text is left: the chains so far are all
-pub counts-all : (kept new : Option ChainValue) (bytes : List ℕ) (rest : List ℕ) (summaries : List Summary) → Counts kept (pieces_at 10 bytes) (pieces_at 10 rest) summaries
-    → ((q : Position) → IsAt kept q → IsOver kept new q rest) → summaries ≡ map summary_of (chains_in bytes)
-counts-all kept new bytes rest summaries c over =
-    let o = over c.now c.at in
-    let none : coming c.now (pieces_at 10 rest) ≡ nothing =
-    ap (λ q. coming q (pieces_at 10 rest)) o.between ∙ ap (λ r. coming (Between (so_far c.now)) (pieces_at 10 r)) o.none in
-    c.are ∙ ap (map summary_of) (sym (c.told ∙ ap (joined c.chains) none ∙ joined-nothing c.chains))
+pub counted-all : (summaries : List Summary) (before : Option Chain) (bytes : List ℕ) → AreCounted summaries (Between before) (pieces_at 10 bytes) (pieces_at 10 [])
+    → summaries ≡ map summary_of (chains_in bytes)
+counted-all summaries before bytes c = c.are ∙ ap (map summary_of) (sym (c.told ∙ joined-nothing c.chains))
+
+pub ok-on : {T E : Type 0} (r : Result T E) (P : Type 0) → is_ok r ≡ true → OnOk r P → P
+ok-on (Ok v) P fine h = h
+ok-on (Err f) P fine h = absurd (true≢false (sym fine))

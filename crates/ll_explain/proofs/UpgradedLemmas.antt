@@ -1,17 +1,16 @@
 -- What lines are in format 2, by what the first of them say.
-use Rattle.std.proofs.Common.{◌≡◌, ℕ, List, [], ◌++◌, cond, length, Option, Some, None, Result, Ok, Err, OnOk, false, is_err, is_ok, true≢false, refl, ap, sym, ◌∙◌, append_assoc, option_map}
+use Rattle.std.proofs.Common.{◌≡◌, ℕ, List, [], ◌++◌, cond, length, Option, Some, None, Result, Ok, Err, OnOk, false, is_err, is_ok, true≢false, refl, ap, sym, subst, ◌∙◌, append_assoc, append-nil, option_map}
+use Rattle.std.proofs.KnownBytes.{Appends-nil, Appends-trans}
+use Rattle.std.specs.Io.KnownBytes.{Appends}
 use Rattle.std.specs.Option.{option_map_or}
 use Rattle.ll_attr.specs.Words.{pieces_at}
-use Rattle.ll_check.proofs.Places.{first-at}
-use Rattle.ll_check.proofs.StepLemmas.{GoesTo, moved}
-use Rattle.ll_check.specs.Found.{ChainValue, IsAt}
-use Rattle.ll_check.specs.Steps.{Moves, Tells, full_entry}
+use Rattle.ll_check.specs.Steps.{Tells, full_entry}
 use Rattle.ll_entry_check.specs.Full.{without_item}
-use Rattle.ll_explain.specs.Upgrade.{told_text, upgraded_entry, upgraded_from, upgraded_line, where_right}
+use Rattle.ll_explain.specs.Upgrade.{AreWritten, told_text, upgraded, upgraded_entry, upgraded_from, upgraded_line, where_right}
 use Rattle.ll_entry_check.specs.declared.full.FullEntry.{FullEntry}
 use Rattle.ll_check.specs.declared.told.Told.{Told}
 use Rattle.ll_check.specs.declared.told.Told.TheVariants as told
-use Rattle.ll_entry.specs.Chain.{Between, Chain, Inside, Position, checked_from, with_line}
+use Rattle.ll_entry.specs.Chain.{Between, Chain, Inside, Position, with_line}
 use Rattle.ll_entry.specs.Frame.{header_text, last_line}
 use Rattle.ll_entry.specs.Leads.{with_end}
 use Rattle.ll_entry.specs.declared.entry.Recorded.{Recorded}
@@ -57,39 +56,39 @@ upgrades (Inside ch) next (told.Begun settings at) lines rest h = absurd h
 upgrades (Inside ch) (Between before) (told.Entry version line entry) lines rest h = absurd h
 upgrades (Inside ch) (Inside now) told.Ended lines rest h = absurd h
 
--- what is kept has gone over lines from the start, and what they are in format 2 was written
-pub record Writes (kept : Option ChainValue) (lines rest : List (List ℕ)) (text : List ℕ) : Type 0 where
-  pub now : Position
-  pub at : IsAt kept now
-  pub same : checked_from (Between None) lines ≡ checked_from now rest
-  pub written : upgraded_from (Between None) lines ≡ text ++ upgraded_from now rest
-
 -- nothing was read yet
-pub writes-first : (kept : Option ChainValue) (lines : List (List ℕ)) (text : List ℕ) → kept ≡ None → text ≡ [] → Writes kept lines lines text
-writes-first kept lines text none empty = record {
-  now = Between None;
-  at = first-at kept none;
-  same = refl;
-  written = ap (λ t. t ++ upgraded_from (Between None) lines) (sym empty);
-}
+pub written-first : (out : Option (List ℕ)) (text : List ℕ) (lines : List (List ℕ)) → text ≡ [] → AreWritten out out text (Between None) lines lines
+written-first out text lines empty =
+    record { written = []; appends = Appends-nil out; are = ap (λ t. t ++ upgraded_from (Between None) lines) (sym empty) }
 
 -- what the next lines are was added
-pub writes-on : (kept new : Option ChainValue) (t : Told) (lines mid : List (List ℕ)) (rest text longer : List ℕ) → Writes kept lines mid text
-    → ((q : Position) → IsAt kept q → Moves new q t mid (pieces_at 10 rest)) → ((c : Configuration) → longer ≡ text ++ told_text c t)
-    → Writes new lines (pieces_at 10 rest) longer
-writes-on kept new t lines mid rest text longer w on added =
-    let m = on w.now w.at in
-    let u = upgrades w.now m.next t mid (pieces_at 10 rest) m.by in
+pub written-told : (first out : Option (List ℕ)) (text longer : List ℕ) (p next : Position) (t : Told) (lines mid rest : List (List ℕ))
+    → AreWritten first out text p lines mid → Tells p t next mid rest → ((c : Configuration) → longer ≡ text ++ told_text c t)
+    → AreWritten first out longer next lines rest
+written-told first out text longer p next t lines mid rest w by added =
+    let u = upgrades p next t mid rest by in
+    let after = upgraded_from next rest in
     record {
-      now = m.next;
-      at = m.at;
-      same = w.same ∙ moved w.now m.next t mid rest m.by;
-      written = w.written ∙ ap (λ t. text ++ t) u.1 ∙ sym (append_assoc text (told_text u.0 t) (upgraded_from m.next (pieces_at 10 rest)))
-          ∙ ap (λ t. t ++ upgraded_from m.next (pieces_at 10 rest)) (sym (added u.0));
+      written = w.written;
+      appends = w.appends;
+      are = w.are ∙ ap (λ x. w.written ++ text ++ x) u.1 ∙ sym (append_assoc (w.written ++ text) (told_text u.0 t) after)
+          ∙ ap (λ x. x ++ after) (append_assoc w.written text (told_text u.0 t) ∙ ap (λ x. w.written ++ x) (sym (added u.0)));
     }
 
-pub goes-writes : (kept : Option ChainValue) (lines rest : List (List ℕ)) (text : List ℕ) → Writes kept lines rest text → GoesTo kept (Between None) lines rest
-goes-writes kept lines rest text w = record { now = w.now; at = w.at; same = w.same }
+-- what was still to be written was
+pub written-out : (first out after : Option (List ℕ)) (text left : List ℕ) (p : Position) (lines rest : List (List ℕ)) → AreWritten first out text p lines rest
+    → Appends out after text → left ≡ [] → AreWritten first after left p lines rest
+written-out first out after text left p lines rest w more empty = record {
+  written = w.written ++ text;
+  appends = Appends-trans first out after w.written text w.appends more;
+  are = w.are ∙ ap (λ x. x ++ upgraded_from p rest) (sym (append-nil (w.written ++ text)) ∙ ap (λ x. w.written ++ text ++ x) (sym empty));
+}
+
+-- no text is left
+pub written-all : (first out after : Option (List ℕ)) (text bytes : List ℕ) (before : Option Chain)
+    → AreWritten first out text (Between before) (pieces_at 10 bytes) (pieces_at 10 []) → Appends out after text → Appends first after (upgraded bytes)
+written-all first out after text bytes before w more =
+    subst (Appends first after) (sym (w.are ∙ append-nil (w.written ++ text))) (Appends-trans first out after w.written text w.appends more)
 
 pub added : {T E : Type 0} (r : Result T E) (new x y : List ℕ) → new ≡ cond (is_ok r) x y → OnOk r (new ≡ x)
 added (Ok v) new x y e = e

@@ -1,11 +1,13 @@
 -- For private contracts: what one more entry adds to a summary, and to the chains so far.
-use Rattle.std.specs.Prelude.{ℕ, zero, suc, ◌+◌, ◌-◌, ◌^◌, List, [], ◌∷◌, ◌++◌, Bool, Option, Some, None, if◌then◌else◌, min}
+use Rattle.std.specs.Prelude.{◌≡◌, ◌≤◌, ℕ, zero, suc, ◌+◌, ◌-◌, ◌^◌, List, [], ◌∷◌, ◌++◌, Bool, Option, Some, None, if◌then◌else◌, length, map, min}
 use Rattle.std.specs.Option.{option_or}
+use Rattle.ll_check.specs.Found.{so_far}
 use Rattle.ll_check.specs.declared.told.Told.{Told}
 use Rattle.ll_check.specs.declared.told.Told.TheVariants as told
 use Rattle.ll_entry_check.specs.declared.full.FullEntry.{FullEntry}
-use Rattle.ll_explain.specs.Chains.{Coming}
-use Rattle.ll_explain.specs.Summary.{is_answered, is_at_once, is_busy, is_given_up, is_held, is_item, is_not_found, is_timed_out, is_too_far, reading_of}
+use Rattle.ll_entry.specs.Chain.{Between, Position, entries}
+use Rattle.ll_explain.specs.Chains.{Coming, coming}
+use Rattle.ll_explain.specs.Summary.{is_answered, is_at_once, is_busy, is_given_up, is_held, is_item, is_not_found, is_timed_out, is_too_far, reading_of, summary_of}
 use Rattle.ll_explain.specs.declared.summary.Summary.{Summary}
 
 -- one more, as far as 64 bits go
@@ -69,3 +71,10 @@ abbrev pub joined : List (List FullEntry) → Coming → List (List FullEntry)
 joined [] later = later.chains
 joined (es ∷ []) later = (es ++ later.entries) ∷ later.chains
 joined (es ∷ fs ∷ more) later = es ∷ joined (fs ∷ more) later
+
+-- after lines the summaries are those of the chains so far, the last of which is no longer than all of them
+pub record AreCounted (summaries : List Summary) (p : Position) (lines rest : List (List ℕ)) : Type 0 where
+  pub chains : List (List FullEntry)
+  pub few : length (last_chain chains) ≤ entries (so_far p)
+  pub told : (coming (Between None) lines).chains ≡ joined chains (coming p rest)
+  pub are : summaries ≡ map summary_of chains

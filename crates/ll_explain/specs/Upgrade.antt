@@ -1,5 +1,6 @@
 -- A record in format 2, whichever formats its chunks are in.
-use Rattle.std.specs.Prelude.{◌≡◌, ℕ, List, [], ◌∷◌, ◌++◌, false, Some, None, Result, Ok, Err, bytes_eq, codes, if◌then◌else◌, length}
+use Rattle.std.specs.Prelude.{◌≡◌, ℕ, List, [], ◌∷◌, ◌++◌, false, Option, Some, None, Result, Ok, Err, bytes_eq, codes, if◌then◌else◌, length}
+use Rattle.std.specs.Io.KnownBytes.{Appends}
 use Rattle.std.specs.List.{AllZip}
 use Rattle.std.specs.Option.{option_map_or}
 use Rattle.ll_attr.specs.Words.{after, pieces_at}
@@ -64,6 +65,12 @@ upgraded_from (Inside ch) (line ∷ more) =
 -- a record in format 2
 abbrev pub upgraded : List ℕ → List ℕ
 upgraded bytes = upgraded_from (Between None) (pieces_at 10 bytes)
+
+-- what was written after lines, and `text`, which is still to be written, are what the lines are in format 2
+pub record AreWritten (first out : Option (List ℕ)) (text : List ℕ) (p : Position) (lines rest : List (List ℕ)) : Type 0 where
+  pub written : List ℕ
+  pub appends : Appends first out written
+  pub are : upgraded_from (Between None) lines ≡ written ++ text ++ upgraded_from p rest
 
 -- ---- that it says the same
 

@@ -1,25 +1,26 @@
 //! What one entry of a record says.
-ghost use Rattle.std.specs.Prelude.{◌≡◌, ◌≢◌, ◌≤◌, ◌⊎◌, IfErr, IfOk, IsErrOf, MatchOption, None, Err, true};
-ghost use Rattle.ll_attr.specs.Words.{pieces_at};
-ghost use Rattle.ll_check.specs.Found.{IsAt};
-ghost use Rattle.ll_entry.specs.Chain.{Between, Position, checked, checked_from, not_before};
-ghost use Rattle.ll_entry.specs.declared.fault.CheckFault.{CheckFault};
+ghost use Rattle.std.specs.Prelude.{◌≡◌, ◌<◌, ◌+◌, ◌^◌, IfOk, IsErrOf, List, Some, ℕ};
+ghost use Rattle.ll_check.specs.Found.{so_far};
+ghost use Rattle.ll_check.specs.Going.{IsEarly};
+ghost use Rattle.ll_check.specs.Unread.{IsFaultOf, IsStopped};
+ghost use Rattle.ll_check.specs.declared.source.RecordFault.{RecordFault as FaultValue};
 ghost use Rattle.ll_explain.specs.Explained.{HasNoEntry, IsExplained};
-ghost use Rattle.ll_explain.specs.Seeking.{IsElsewhere, IsHere, time_told};
+ghost use Rattle.ll_explain.specs.Seeking.{time_told};
 
-use ll_check::{Checker, EntryReply, Told};
-use ll_entry::{CheckFault, CheckKind};
+use ll_attr::Text;
+use ll_check::{Ending, EntryReply, RecordFault, Told, Visitor, go_to};
+use ll_device::Reader;
 use ll_entry_check::FullEntry;
 use ll_verdict::Reply;
 use std::alloc::Global;
 
 /// What a record says of one of its entries.
 #[derive(Drop)]
-pub struct Explained<'a> {
+pub struct Explained {
     /// The channel's time before it, in milliseconds.
     pub time: u64,
     /// Its line.
-    pub line: &'a str,
+    pub line: Text,
     /// Its reply: what a request gets at once, or what is handed out to it; `None` if it has none.
     pub reply: Option<Reply>,
 }
@@ -27,87 +28,49 @@ pub struct Explained<'a> {
 /// Why an entry isn't explained.
 #[derive(Clone, Copy)]
 pub enum ExplainFault {
-    /// The record is wrong before it or at it, or out of memory.
-    Wrong(CheckFault),
+    /// The record is wrong before it or at it, out of memory, or wasn't read up to it.
+    Record(RecordFault),
     /// The record has no entry with this number.
     NoEntry,
 }
 
-/// Returns what a record says of the entry with the number `entry`, from 1. What comes after the entry isn't checked.
-pub fn explain(alloc: Global, chunks: &[u8], entry: u64) -> Result<Explained<'_>, ExplainFault>
-    ensures right { IfOk result (λ e. IsExplained chunks.now entry e.time e.line.now e.reply) }
-    ensures wrong { (f : CheckFault) → IsErrOf result (ExplainFault.Wrong f) → f.kind ≢ CheckKind.Memory → checked chunks.now ≡ Err f }
-    ensures memory { (f : CheckFault) → IsErrOf result (ExplainFault.Wrong f)
-        → f.kind ≡ CheckKind.Memory → not_before f.entry (checked_from (Between None) (pieces_at 10 chunks.now)) ≡ true }
-    ensures early { (f : CheckFault) → IsErrOf result (ExplainFault.Wrong f) → (entry ≡ 0) ⊎ (f.entry ≤ entry) }
-    ensures none { IsErrOf result ExplainFault.NoEntry → HasNoEntry chunks.now entry }
-{
-    match find(alloc, chunks, entry) {
-        Ok(Some(explained)) => Ok(explained),
-        Ok(None) => Err(ExplainFault::NoEntry),
-        Err(fault) => Err(ExplainFault::Wrong(fault)),
-    }
-}
-
-/// Returns what a record says of the entry with the number `entry`; `None` if it has no such entry.
-fn find(alloc: Global, chunks: &[u8], entry: u64) -> Result<Option<Explained<'_>>, CheckFault>
-    ensures right { IfOk result (λ r. MatchOption r (HasNoEntry chunks.now entry) (λ e. IsExplained chunks.now entry e.time e.line.now e.reply)) }
-    ensures wrong { IfErr result (λ f. f.kind ≢ CheckKind.Memory → checked chunks.now ≡ Err f) }
-    ensures memory { IfErr result (λ f. f.kind ≡ CheckKind.Memory → not_before f.entry (checked_from (Between None) (pieces_at 10 chunks.now)) ≡ true) }
-    ensures early { IfErr result (λ f. (entry ≡ 0) ⊎ (f.entry ≤ entry)) }
-{
-    let mut checker = Checker::new(alloc);
-    find_by(&mut checker, chunks, entry)
-}
-
-/// Does the same with `checker`, to which no chunk has come.
-fn find_by<'a>(
-    checker: &mut Checker,
-    chunks: &'a [u8],
+/// Returns what the record that is left in `source` says of the entry with the number `entry`, from 1. The record is read in pieces, and what
+/// comes after the entry isn't checked.
+pub fn explain<R: Reader>(
+    alloc: Global,
+    source: &mut R,
     entry: u64,
-) -> Result<Option<Explained<'a>>, CheckFault>
-    requires { checker.old ≡ None }
-    ensures right { IfOk result (λ r. MatchOption r (HasNoEntry chunks.now entry) (λ e. IsExplained chunks.now entry e.time e.line.now e.reply)) }
-    ensures wrong { IfErr result (λ f. f.kind ≢ CheckKind.Memory → checked chunks.now ≡ Err f) }
-    ensures memory { IfErr result (λ f. f.kind ≡ CheckKind.Memory → not_before f.entry (checked_from (Between None) (pieces_at 10 chunks.now)) ≡ true) }
-    ensures early { IfErr result (λ f. (entry ≡ 0) ⊎ (f.entry ≤ entry)) }
+) -> Result<Explained, ExplainFault>
+    ensures right { (input : List ℕ) → R.left source.old ≡ Some input → IfOk result (λ e. IsExplained input entry e.time e.line e.reply) }
+    ensures wrong { (input : List ℕ) → R.left source.old ≡ Some input
+        → (f : FaultValue) → IsErrOf result (ExplainFault.Record f) → IsFaultOf input f × IsEarly entry f }
+    ensures none { (input : List ℕ) → R.left source.old ≡ Some input → IsErrOf result ExplainFault.NoEntry → HasNoEntry input entry }
+    ensures stopped { (f : FaultValue) → IsErrOf result (ExplainFault.Record f)
+        → IsStopped (R.failures source.old < R.failures source.new) (R.reads source.new ≡ R.reads source.old + 2 ^ 32) f }
 {
-    let mut rest = chunks;
     let mut time = 0;
-    while let Some((told, more)) = checker.next(rest)? {
-        time = time_after(time, &told);
-        rest = more;
-        match reply_at(checker, entry, rest) {
-            Ok(Some(EntryReply { line, reply })) => return Ok(Some(Explained {
-                time,
-                line,
-                reply,
-            })),
-            Ok(None) => {}
-            Err(fault) => return Err(fault),
-        }
+    match go_to(alloc, source, entry, &mut Timed, &mut time) {
+        Ok(Ending::Entry(EntryReply { line, reply })) => Ok(Explained { time, line, reply }),
+        Ok(Ending::End(_)) => Err(ExplainFault::NoEntry),
+        Err(fault) => Err(ExplainFault::Record(fault)),
     }
-    checker.count()?;
-    Ok(None)
 }
 
-/// Returns the line and the reply of the next entry, if its number is `entry`; else `None`, and nothing changes.
-fn reply_at<'a>(
-    checker: &mut Checker,
-    entry: u64,
-    text: &'a [u8],
-) -> Result<Option<EntryReply<'a>>, CheckFault>
-    ensures right { (p : Position) → IsAt checker.old p → IfOk result (λ r. MatchOption r (IsElsewhere checker.old checker.new p entry (pieces_at 10 text.now))
-        (λ b. IsHere p entry b.line.now b.reply (pieces_at 10 text.now))) }
-    ensures wrong { (p : Position) → IsAt checker.old p
-        → IfErr result (λ f. f.kind ≢ CheckKind.Memory → checked_from p (pieces_at 10 text.now) ≡ Err f) }
-    ensures memory { (p : Position) → IsAt checker.old p → IfErr result (λ f. not_before f.entry (checked_from p (pieces_at 10 text.now)) ≡ true) }
-    ensures place { (p : Position) → IsAt checker.old p → IfErr result (λ f. f.entry ≡ entry) }
-{
-    if checker.entries() + 1 != entry {
-        return Ok(None);
+/// A visitor to whom lines are the time of their chain's channel.
+#[derive(Drop)]
+struct Timed;
+
+impl Visitor<u64> for Timed {
+    ghost use Rattle.std.specs.Prelude.{◌≡◌};
+    ghost use Rattle.ll_check.specs.Found.{so_far};
+    ghost use Rattle.ll_explain.specs.Seeking.{time_of};
+
+    ghost holds = { λ first timed ms p lines rest. ms ≡ time_of (so_far p) };
+
+    fn visit(&mut self, time: &mut u64, told: &Told<'_>) -> bool {
+        *time = time_after(*time, told);
+        true
     }
-    checker.reply(text)
 }
 
 /// Returns the time of a chain's channel after the lines that say `told`, from `time` before them: the largest reading of the chain.

@@ -13,4 +13,4 @@ pub use explained::{ExplainFault, Explained, explain};
 pub use laws::upgrade_law;
 pub use summary::{Summary, summarize};
 pub use summary_lines::summary_text;
-pub use upgraded::upgrade;
+pub use upgraded::{UpgradeFault, upgrade};

@@ -1,15 +1,15 @@
 //! The summary of each chain of a record: how many entries of each kind it has.
-ghost use Rattle.std.specs.Prelude.{◌≡◌, ◌≢◌, ◌++◌, ◌∷◌, ◌-◌, ◌^◌, ◌<◌, [], IfErr, IfOk, None, OnOk, Ok, Err, List, length, map, true, ℕ};
-ghost use Rattle.ll_attr.specs.Words.{pieces_at};
+ghost use Rattle.std.specs.Prelude.{◌≡◌, ◌+◌, ◌++◌, ◌∷◌, ◌-◌, ◌^◌, ◌<◌, [], IfErr, IfOk, None, OnOk, Ok, List, Some, length, map, ℕ};
+ghost use Rattle.ll_check.specs.Unread.{IsFaultOf, IsStopped};
 ghost use Rattle.ll_directive.specs.Targets.{WantValue};
 ghost use Rattle.ll_entry_check.specs.declared.full.FullEntry.{FullEntry};
-ghost use Rattle.ll_entry.specs.Chain.{Between, checked, checked_from, not_before};
+ghost use Rattle.ll_entry.specs.Chain.{checked};
 ghost use Rattle.ll_explain.specs.Chains.{chains_in};
 ghost use Rattle.ll_explain.specs.Counting.{last_chain, one_more, with_kind, with_told};
 ghost use Rattle.ll_explain.specs.Summary.{held_now, summary_of};
 
-use ll_check::{Checker, Told};
-use ll_entry::{CheckFault, CheckKind};
+use ll_check::{RecordFault, Told, Visitor, go_over};
+use ll_device::Reader;
 use ll_entry_check::FullEntry;
 use ll_verdict::Outcome;
 use std::alloc::{AllocError, Global};
@@ -132,47 +132,36 @@ fn count(many: &mut u64)
     *many = many.saturating_add(1);
 }
 
-/// Returns the summary of each chain of the record `chunks`.
+/// Returns the summary of each chain of the record that is left in `source`, which is read in pieces.
 ///
 /// # Errors
 ///
-/// The fault of the record, as [`check`](ll_check::check) has it; Memory if out of memory.
-pub fn summarize(alloc: Global, chunks: &[u8]) -> Result<Vec<Summary>, CheckFault>
-    ensures right { OnOk result ((n : ℕ) × (checked chunks.now ≡ Ok n)) }
-    ensures counts { IfOk result (λ all. all.items ≡ map summary_of (chains_in chunks.now)) }
-    ensures wrong { IfErr result (λ f. f.kind ≢ CheckKind.Memory → checked chunks.now ≡ Err f) }
-    ensures memory { IfErr result (λ f. f.kind ≡ CheckKind.Memory → not_before f.entry (checked_from (Between None) (pieces_at 10 chunks.now)) ≡ true) }
-{
-    let mut checker = Checker::new(alloc);
-    summarize_by(alloc, &mut checker, chunks)
-}
-
-/// Does the same with `checker`, to which no chunk has come.
-fn summarize_by(
-    alloc: Global,
-    checker: &mut Checker,
-    chunks: &[u8],
-) -> Result<Vec<Summary>, CheckFault>
-    requires { checker.old ≡ None }
-    ensures right { OnOk result ((n : ℕ) × (checked chunks.now ≡ Ok n)) }
-    ensures counts { IfOk result (λ all. all.items ≡ map summary_of (chains_in chunks.now)) }
-    ensures wrong { IfErr result (λ f. f.kind ≢ CheckKind.Memory → checked chunks.now ≡ Err f) }
-    ensures memory { IfErr result (λ f. f.kind ≡ CheckKind.Memory → not_before f.entry (checked_from (Between None) (pieces_at 10 chunks.now)) ≡ true) }
+/// The fault of the record, as [`check_source`](ll_check::check_source) has it; Memory if out of memory.
+pub fn summarize<R: Reader>(alloc: Global, source: &mut R) -> Result<Vec<Summary>, RecordFault>
+    ensures right { (input : List ℕ) → R.left source.old ≡ Some input → OnOk result ((n : ℕ) × (checked input ≡ Ok n)) }
+    ensures counts { (input : List ℕ) → R.left source.old ≡ Some input → IfOk result (λ all. all.items ≡ map summary_of (chains_in input)) }
+    ensures wrong { (input : List ℕ) → R.left source.old ≡ Some input → IfErr result (IsFaultOf input) }
+    ensures stopped { IfErr result (IsStopped (R.failures source.old < R.failures source.new) (R.reads source.new ≡ R.reads source.old + 2 ^ 32)) }
 {
     let mut chains = Vec::new(alloc);
-    let mut rest = chunks;
-    while let Some((told, more)) = checker.next(rest)? {
-        let entries = checker.entries();
-        if add(&mut chains, &told).is_err() {
-            return Err(CheckFault {
-                entry: entries + 1,
-                kind: CheckKind::Memory,
-            });
-        }
-        rest = more;
+    match go_over(alloc, source, &mut Counting, &mut chains) {
+        Ok(_) => Ok(chains),
+        Err(fault) => Err(fault),
     }
-    checker.count()?;
-    Ok(chains)
+}
+
+/// A visitor that counts what lines say in the summaries of their chains.
+#[derive(Drop)]
+struct Counting;
+
+impl Visitor<Vec<Summary>> for Counting {
+    ghost use Rattle.ll_explain.specs.Counting.{AreCounted};
+
+    ghost holds = { λ first counting chains p lines rest. AreCounted chains.items p lines rest };
+
+    fn visit(&mut self, chains: &mut Vec<Summary>, told: &Told<'_>) -> bool {
+        add(chains, told).is_ok()
+    }
 }
 
 /// Counts `told`, what the next lines say: a chain begins with a chunk that has no entries before it.

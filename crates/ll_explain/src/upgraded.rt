@@ -1,49 +1,104 @@
 //! How a record is written in format 2.
-ghost use Rattle.std.specs.Prelude.{◌≡◌, ◌≢◌, ◌++◌, ℕ, IfErr, IfOk, OnOk, None, Ok, Err, true};
-ghost use Rattle.ll_attr.specs.Words.{pieces_at};
-ghost use Rattle.ll_entry.specs.Chain.{Between, checked, checked_from, not_before};
+ghost use Rattle.std.specs.Prelude.{◌≡◌, ◌+◌, ◌++◌, ◌<◌, ◌^◌, [], ℕ, IsErrOf, List, OnOk, Ok, Some, true};
+ghost use Rattle.std.specs.Io.KnownBytes.{Appends};
+ghost use Rattle.ll_check.specs.Unread.{IsFaultOf, IsStopped};
+ghost use Rattle.ll_check.specs.declared.source.RecordFault.{RecordFault as FaultValue};
+ghost use Rattle.ll_entry.specs.Chain.{checked};
 ghost use Rattle.ll_explain.specs.Upgrade as spec;
 ghost use Rattle.ll_explain.specs.Upgrade.{told_text, upgraded, upgraded_line};
 ghost use Rattle.ll_settings.specs.Settings.{Configuration};
 
 use ll_attr::after;
-use ll_check::{Checker, Told};
-use ll_entry::{CheckFault, CheckKind, LAST_LINE, Version, ask_line, collect_line, header_text};
+use ll_check::{RecordFault, Told, Visitor, go_over};
+use ll_device::Reader;
+use ll_entry::{LAST_LINE, Version, ask_line, collect_line, header_text};
 use ll_entry_check::FullEntry;
 use std::alloc::{AllocError, Global};
+use std::io::Write;
 
-/// Returns the same chunks in format 2, if a file of chunks is a faithful record; else the first entry at which it is wrong, and how, as
-/// [`check`](ll_check::check) has it. The words of settings and items stay as they are. A request for `v2` in format 1 becomes one for
-/// `YES`, as it was answered.
-pub fn upgrade(alloc: Global, bytes: &[u8]) -> Result<Vec<u8>, CheckFault>
-    ensures right { IfOk result (λ text. ((n : ℕ) × (checked bytes.now ≡ Ok n)) × (text.items ≡ upgraded bytes.now)) }
-    ensures wrong { IfErr result (λ f. f.kind ≢ CheckKind.Memory → checked bytes.now ≡ Err f) }
-    ensures memory { IfErr result (λ f. f.kind ≡ CheckKind.Memory → not_before f.entry (checked_from (Between None) (pieces_at 10 bytes.now)) ≡ true) }
-{
-    let mut checker = Checker::new(alloc);
-    upgrade_by(alloc, &mut checker, bytes)
+/// The number of bytes from which lines are written.
+const PIECE: usize = 65_536;
+
+/// Why a record wasn't written in format 2 to its end.
+#[derive(Clone, Copy)]
+pub enum UpgradeFault {
+    /// It is wrong, out of memory, or wasn't read to its end.
+    Record(RecordFault),
+    /// A write failed.
+    Write,
 }
 
-/// Does the same with `checker`, to which no chunk has come.
-fn upgrade_by(alloc: Global, checker: &mut Checker, bytes: &[u8]) -> Result<Vec<u8>, CheckFault>
-    requires { checker.old ≡ None }
-    ensures right { IfOk result (λ text. ((n : ℕ) × (checked bytes.now ≡ Ok n)) × (text.items ≡ upgraded bytes.now)) }
-    ensures wrong { IfErr result (λ f. f.kind ≢ CheckKind.Memory → checked bytes.now ≡ Err f) }
-    ensures memory { IfErr result (λ f. f.kind ≡ CheckKind.Memory → not_before f.entry (checked_from (Between None) (pieces_at 10 bytes.now)) ≡ true) }
+/// Writes the record that is left in `source` to `out` in format 2: the same chunks. It is read in pieces, and written as it is read, up to
+/// the first entry at which it is wrong. The words of settings and items stay as they are. A request for `v2` in format 1 becomes one for
+/// `YES`, as it was answered.
+pub fn upgrade<R: Reader, W: Write>(
+    alloc: Global,
+    source: &mut R,
+    out: &mut W,
+) -> Result<(), UpgradeFault>
+    ensures right { (input : List ℕ) → R.left source.old ≡ Some input
+        → OnOk result (((n : ℕ) × (checked input ≡ Ok n)) × Appends (W.contents out.old) (W.contents out.new) (upgraded input)) }
+    ensures wrong { (input : List ℕ) → R.left source.old ≡ Some input → (f : FaultValue) → IsErrOf result (UpgradeFault.Record f) → IsFaultOf input f }
+    ensures stopped { (f : FaultValue) → IsErrOf result (UpgradeFault.Record f)
+        → IsStopped (R.failures source.old < R.failures source.new) (R.reads source.new ≡ R.reads source.old + 2 ^ 32) f }
 {
-    let mut text = Vec::new(alloc);
-    let mut rest = bytes;
-    while let Some((told, more)) = checker.next(rest)? {
-        if push_told(alloc, &mut text, &told).is_err() {
-            return Err(CheckFault {
-                entry: checker.entries() + 1,
-                kind: CheckKind::Memory,
-            });
+    let mut unwritten = Unwritten {
+        alloc,
+        text: Vec::new(alloc),
+        failed: false,
+    };
+    match go_over(alloc, source, &mut unwritten, out) {
+        Ok(_) => {
+            if unwritten.write(out) {
+                return Ok(());
+            }
         }
-        rest = more;
+        Err(fault) => {
+            if !unwritten.failed {
+                return Err(UpgradeFault::Record(fault));
+            }
+        }
     }
-    checker.count()?;
-    Ok(text)
+    Err(UpgradeFault::Write)
+}
+
+/// Lines in format 2 that aren't written yet.
+#[derive(Drop)]
+struct Unwritten {
+    alloc: Global,
+    text: Vec<u8>,
+    /// Whether a write failed.
+    failed: bool,
+}
+
+impl<W: Write> Visitor<W> for Unwritten {
+    ghost use Rattle.ll_explain.specs.Upgrade.{AreWritten};
+
+    ghost holds = { λ first unwritten out p lines rest. AreWritten (W.contents first) (W.contents out) unwritten.text.items p lines rest };
+
+    fn visit(&mut self, out: &mut W, told: &Told<'_>) -> bool {
+        if push_told(self.alloc, &mut self.text, told).is_err() {
+            return false;
+        }
+        if self.text.len() < PIECE {
+            return true;
+        }
+        self.write(out)
+    }
+}
+
+impl Unwritten {
+    /// Writes the lines, and returns whether it could.
+    fn write<W: Write>(&mut self, out: &mut W) -> bool
+        ensures { result ≡ true → Appends (W.contents out.old) (W.contents out.new) self.old.text.items × (self.new.text.items ≡ []) }
+    {
+        if out.write_all(&self.text).is_err() || out.flush().is_err() {
+            self.failed = true;
+            return false;
+        }
+        self.text.clear();
+        true
+    }
 }
 
 /// Appends the lines that say `told`, in format 2.

@@ -8,14 +8,14 @@ use ll_item::SkipKind;
 use ll_verdict::{Outcome, Reply};
 use std::alloc::{AllocError, Global};
 
-impl Explained<'_> {
+impl Explained {
     /// Returns the entry with the number `entry` in words, with its line, the channel's time before it, and the playlist of its reply, byte
     /// for byte.
     #[tactic(auto, unfolding(crate::specs::Words::explained_text))]
     pub fn text(&self, alloc: Global, entry: u64) -> Result<String, AllocError>
-        ensures { IfOk result (λ t. string_bytes t ≡ spec.explained_text entry self.now.time self.now.line.now self.now.reply) }
+        ensures { IfOk result (λ t. string_bytes t ≡ spec.explained_text entry self.now.time self.now.line self.now.reply) }
     {
-        let (time, line) = (self.time, self.line);
+        let (time, line) = (self.time, self.line.as_str());
         let event = event_words(line, &self.reply);
         let reply = reply_words(alloc, &self.reply)?;
         let reply = reply.as_str();

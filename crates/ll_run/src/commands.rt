@@ -46,9 +46,11 @@ pub fn called(rt: &HostRuntime) -> Result<Ending, Fault> {
         }
         Command::Apply { base, delta } => apply(rt, base.as_str(), delta.as_str()),
         Command::Check(record) => check::<Brand>(rt, record, Blank::new(2)),
-        Command::Upgrade(record) => upgrade(rt, record.as_str()),
-        Command::Summarize(record) => summarize(rt, record.as_str()),
-        Command::Explain { record, entry } => explain(rt, record.as_str(), entry),
+        Command::Upgrade(record) => {
+            upgrade::<Brand, Brand>(rt, record, Blank::new(2), Blank::new(2))
+        }
+        Command::Summarize(record) => summarize::<Brand>(rt, record, Blank::new(2)),
+        Command::Explain { record, entry } => explain::<Brand>(rt, record, entry, Blank::new(2)),
         Command::Multivariant { record, sources } => {
             let right = multivariant(rt, record.as_str(), sources)?;
             Ok(ending_of(right))
@@ -76,40 +78,78 @@ fn apply(rt: &HostRuntime, base: &str, delta: &str) -> Result<Ending, Fault> {
     Ok(Ending::Done)
 }
 
-/// Writes how many entries the record in a file has, or how it isn't right. It reads the file in pieces.
+/// Writes how many entries the record in a file has, or how it isn't right.
 fn check<L: Ledger>(rt: &HostRuntime, path: &Text, reads: Blank) -> Result<Ending, Fault>
     requires name { reads.name ≡ L.name }
     requires parts { reads.parts ≡ L.parts }
     requires two { reads.parts ≡ 2 }
 {
-    let file = match File::open(rt, path.as_str()) {
-        Ok(file) => file,
-        Err(error) => return Err(fault_of(error.kind(), Fault::Read)),
-    };
-    let mut record: CountedReader<File, L> = CountedReader::new(file, reads);
+    let mut record = open::<L>(rt, path, reads)?;
     let right = write_checked(rt.alloc(), &mut record, &mut rt.stdout())?;
     Ok(ending_of(right))
 }
 
-/// Writes the record in a file in format 2, or how it isn't right.
-fn upgrade(rt: &HostRuntime, path: &str) -> Result<Ending, Fault> {
-    let record = read_file(rt, path)?;
-    let right = write_upgraded(rt.alloc(), &record, &mut rt.stdout())?;
+/// Writes the record in a file in format 2, or how it isn't right. It reads the file twice.
+fn upgrade<L: Ledger, M: Ledger>(
+    rt: &HostRuntime,
+    path: &Text,
+    reads: Blank,
+    further: Blank,
+) -> Result<Ending, Fault>
+    requires name { reads.name ≡ L.name }
+    requires parts { reads.parts ≡ L.parts }
+    requires two { reads.parts ≡ 2 }
+    requires further_name { further.name ≡ M.name }
+    requires further_parts { further.parts ≡ M.parts }
+    requires further_two { further.parts ≡ 2 }
+{
+    let mut record = open::<L>(rt, path, reads)?;
+    let mut again = open::<M>(rt, path, further)?;
+    let right = write_upgraded(rt.alloc(), &mut record, &mut again, &mut rt.stdout())?;
     Ok(ending_of(right))
 }
 
 /// Writes a summary of the record in a file, or how it isn't right.
-fn summarize(rt: &HostRuntime, path: &str) -> Result<Ending, Fault> {
-    let record = read_file(rt, path)?;
-    let right = write_summary(rt.alloc(), &record, &mut rt.stdout())?;
+fn summarize<L: Ledger>(rt: &HostRuntime, path: &Text, reads: Blank) -> Result<Ending, Fault>
+    requires name { reads.name ≡ L.name }
+    requires parts { reads.parts ≡ L.parts }
+    requires two { reads.parts ≡ 2 }
+{
+    let mut record = open::<L>(rt, path, reads)?;
+    let right = write_summary(rt.alloc(), &mut record, &mut rt.stdout())?;
     Ok(ending_of(right))
 }
 
 /// Writes what happened at an entry of the record in a file, or how the record isn't right.
-fn explain(rt: &HostRuntime, path: &str, entry: u64) -> Result<Ending, Fault> {
-    let record = read_file(rt, path)?;
-    let right = write_explained(rt.alloc(), &record, entry, &mut rt.stdout())?;
+fn explain<L: Ledger>(
+    rt: &HostRuntime,
+    path: &Text,
+    entry: u64,
+    reads: Blank,
+) -> Result<Ending, Fault>
+    requires name { reads.name ≡ L.name }
+    requires parts { reads.parts ≡ L.parts }
+    requires two { reads.parts ≡ 2 }
+{
+    let mut record = open::<L>(rt, path, reads)?;
+    let right = write_explained(rt.alloc(), &mut record, entry, &mut rt.stdout())?;
     Ok(ending_of(right))
+}
+
+/// Opens a file to read it in pieces.
+fn open<L: Ledger>(
+    rt: &HostRuntime,
+    path: &Text,
+    reads: Blank,
+) -> Result<CountedReader<File, L>, Fault>
+    requires name { reads.name ≡ L.name }
+    requires parts { reads.parts ≡ L.parts }
+    requires two { reads.parts ≡ 2 }
+{
+    match File::open(rt, path.as_str()) {
+        Ok(file) => Ok(CountedReader::new(file, reads)),
+        Err(error) => Err(fault_of(error.kind(), Fault::Read)),
+    }
 }
 
 /// Returns the ending for a record that is `right`, or isn't.

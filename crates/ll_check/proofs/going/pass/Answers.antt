@@ -1,0 +1,39 @@
+-- What the checker has gone over of the text that was read, and what the visitor did.
+use Rattle.std.proofs.Common.{◌≡◌, ◌≢◌, ◌≤◌, ◌^◌, ◌+◌, ◌++◌, ◌∙◌, [], ap, refl, sym, subst, true}
+use Rattle.ll_attr.specs.Words.{pieces_at}
+use Rattle.ll_check.proofs.LaterLemmas.{later-as}
+use Rattle.ll_check.proofs.SourceLemmas.{has-passed}
+use Rattle.ll_check.specs.Lines.{IsBehind, IsShort}
+use Rattle.ll_entry.specs.Chain.{checked_from}
+use Rattle.ll_check.proofs.going.pass.Goals as goal
+
+pub returns-in_default-clause-stayed : goal.returns-in_default-clause-stayed
+returns-in_default-clause-stayed g c = λ _. (
+  record {
+    short = λ p there. subst (λ t. IsShort c.args.checker.now c.step.new.self p t) c.text.ensures (rw c.in_default.is at (c.in_ok-told.ensures.right p [] there));
+    same = refl;
+  },
+  refl,
+  refl,
+)
+
+pub returns-clause-passed : goal.returns-clause-passed
+returns-clause-passed g c = λ _.
+    let behind : IsBehind c.in-Some.rest.now c.text.result.now = rw c.in-Some.is at c.in_ok-told.ensures.behind in
+    let left = c.keep.ensures.text behind.front c.in-Some.rest.now (sym c.text.ensures ∙ behind.are) refl in (
+      (
+        c.in-Some.told,
+        has-passed c.args.checker.now c.step.new.self c.args.unread.now.text c.text.result.now c.in-Some.rest.now c.keep.new.self.text c.in-Some.told c.text.ensures left behind
+            (λ p more there. rw c.in-Some.is at (c.in_ok-told.ensures.right p more there)),
+        λ first p next lines mid rest at held by. c.visit.ensures first p next lines mid rest held by (subst (λ n. n ≤ 2 ^ 63) (c.entries-entry.ensures.value p at) c.entries-entry.ensures.few) c.if-not-visit.false,
+      ),
+      c.keep.ensures.reads,
+    )
+
+pub returns-then-not-visit-clause-wrong : goal.returns-then-not-visit-clause-wrong
+returns-then-not-visit-clause-wrong g c = record {
+  wrong = λ p more there kind. absurd (kind refl);
+  later = λ p more there.
+      let lines = pieces_at 10 (c.args.unread.now.text ++ more) in
+      later-as (c.entries-entry.result + 1) p lines (checked_from p lines) refl (ap (λ n. n + 1) (c.entries-entry.ensures.value p there));
+}
