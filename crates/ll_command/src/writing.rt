@@ -57,25 +57,25 @@ pub fn write_checked<R: Reader, W: Write>(
     }
 }
 
-/// Writes the record that is left in `record` in format 2, or how it isn't right, and returns whether it is right. The record is read in pieces,
+/// Writes the record that is left in `source` in format 2, or how it isn't right, and returns whether it is right. The record is read in pieces,
 /// first to check it, and then, left in `again`, to write it as it is read: the memory doesn't grow with it. Fails with `Changed` if it isn't
 /// right then.
 pub fn write_upgraded<R: Reader, S: Reader, W: Write>(
     alloc: Global,
-    record: &mut R,
+    source: &mut R,
     again: &mut S,
     out: &mut W,
 ) -> Result<bool, Fault>
-    ensures written { (input : List ℕ) → R.left record.old ≡ Some input → S.left again.old ≡ Some input → IfOk result (λ right. (right ≡ is_ok (checked input))
+    ensures written { (input : List ℕ) → R.left source.old ≡ Some input → S.left again.old ≡ Some input → IfOk result (λ right. (right ≡ is_ok (checked input))
         × Appends (W.contents out.old) (W.contents out.new) (spec.upgrade_answer (checked input) (upgraded input))) }
-    ensures right { (input : List ℕ) → R.left record.old ≡ Some input → IsErrOf result Fault.Changed → IsOk (checked input) }
+    ensures right { (input : List ℕ) → R.left source.old ≡ Some input → IsErrOf result Fault.Changed → IsOk (checked input) }
     ensures changed { (input : List ℕ) → S.left again.old ≡ Some input → IsErrOf result Fault.Changed → IsErr (checked input) }
-    ensures read { IsErrOf result Fault.Read → (R.failures record.old < R.failures record.new) ⊎ (S.failures again.old < S.failures again.new) }
+    ensures read { IsErrOf result Fault.Read → (R.failures source.old < R.failures source.new) ⊎ (S.failures again.old < S.failures again.new) }
     ensures endless { IsErrOf result Fault.Endless
-        → (R.reads record.new ≡ R.reads record.old + 2 ^ 32) ⊎ (S.reads again.new ≡ S.reads again.old + 2 ^ 32) }
+        → (R.reads source.new ≡ R.reads source.old + 2 ^ 32) ⊎ (S.reads again.new ≡ S.reads again.old + 2 ^ 32) }
     ensures kinds { IfErr result (λ f. f ≢ Fault.Write → f ≢ Fault.Read → f ≢ Fault.Endless → f ≢ Fault.Changed → f ≡ Fault.Memory) }
 {
-    match check_source(alloc, record) {
+    match check_source(alloc, source) {
         Ok(_) => {}
         Err(RecordFault::Wrong(fault)) => return write_answer(alloc, Err(fault), out),
         Err(RecordFault::Unread(fault)) => return Err(read_fault(fault)),
