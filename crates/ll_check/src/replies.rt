@@ -67,11 +67,7 @@ fn next_reply(
 }
 
 /// Returns the line and the reply of the next entry of a chunk; `None` if no line ends, or at its last line.
-fn reply_of(
-    alloc: Global,
-    chain: &mut Chain,
-    text: &[u8],
-) -> Result<Option<EntryReply>, CheckKind>
+fn reply_of(alloc: Global, chain: &mut Chain, text: &[u8]) -> Result<Option<EntryReply>, CheckKind>
     ensures right { (ch : spec.Chain) (more : List ℕ) → IsOf chain.old ch
         → IfOk result (λ r. MatchOption r (BringsNone (Some chain.old) (Some chain.new) (Inside ch) text.now more)
         (λ b. IsBrought ch b.line b.reply (pieces_at 10 (text.now ++ more)))) }
@@ -85,11 +81,7 @@ fn reply_of(
 }
 
 /// Returns the entry's line and reply if `line` isn't the last one of its chunk; else `None`.
-fn reply_in(
-    alloc: Global,
-    chain: &mut Chain,
-    line: &[u8],
-) -> Result<Option<EntryReply>, CheckKind>
+fn reply_in(alloc: Global, chain: &mut Chain, line: &[u8]) -> Result<Option<EntryReply>, CheckKind>
     ensures right { (ch : spec.Chain) (rest : List ℕ) → IsOf chain.old ch → IfOk result (λ r. MatchOption r (IsLastOf chain.old chain.new line.now)
         (λ b. IsBrought ch b.line b.reply (line.now ∷ pieces_at 10 rest))) }
     ensures wrong { (ch : spec.Chain) (rest : List ℕ) → IsOf chain.old ch

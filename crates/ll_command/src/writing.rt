@@ -110,7 +110,11 @@ pub fn write_explained<R: Reader, W: Write>(
             }
             Err(AllocError) => Err(Fault::Memory),
         },
-        Err(ExplainFault::Record(RecordFault::Wrong(fault))) => write_answer(alloc, Err(fault), out),
+        Err(ExplainFault::Record(RecordFault::Wrong(fault))) => write_answer(
+            alloc,
+            Err(fault),
+            out,
+        ),
         Err(ExplainFault::Record(RecordFault::Unread(fault))) => Err(read_fault(fault)),
         Err(ExplainFault::NoEntry) => Err(Fault::NoEntry),
     }
