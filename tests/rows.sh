@@ -118,7 +118,7 @@ echo 'bad 40001 Refused' >"$room/busy.checked"
 expect check_of_a_line_in_the_middle "$room/busy.checked" 3 '' check "$room/busy.changed" </dev/null
 expect explain_after_a_line_in_the_middle "$room/busy.checked" 3 '' explain "$room/busy.changed" 65537 </dev/null
 expect explain_of_a_line_in_the_middle "$room/busy.checked" 3 '' explain "$room/busy.changed" 40001 </dev/null
-printf '%s\n' 'entry 40000, at 0 ms: A 40000 hi 0 0 - held' 'a request is held' >"$room/busy.before"
+printf '%s\n' 'entry 40000, at 0 ms: C 1' 'the clock is read' >"$room/busy.before"
 expect explain_before_a_line_in_the_middle "$room/busy.before" 0 '' explain "$room/busy.changed" 40000 </dev/null
 
 # expect_full NAME STATUS FAULT WORD..: runs the program with a full device as its standard output, and tests its status and its fault.

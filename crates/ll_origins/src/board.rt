@@ -86,15 +86,26 @@ impl<'a, R: Eprint + Clock + Wait> Board<'a, R> {
         }
     }
 
-    /// Says that the origin `number` is left because of `why`.
-    pub(crate) fn leave<D: Display + Drop>(&self, rt: &R, number: usize, why: D) {
+    /// Leaves the origin `number` of `pair`, and says that this is because of `why`. If it was left before, does nothing and returns false.
+    pub(crate) fn leave<D: Display + Drop>(
+        &self,
+        rt: &R,
+        pair: &Pair,
+        number: usize,
+        why: D,
+    ) -> bool {
+        // Locked first, or `given` could find it left, and say that it is behind.
         let mut shown = self.0.lock(rt);
+        if !pair.leave(rt, number) {
+            return false;
+        }
         let Rows { meter, rows } = &mut *shown;
         if let Some(row) = rows.get_mut(number) {
             row.link = Link::Left;
             meter.end_line();
             let _ = eprintln!(rt; "llhls: {} is left: {why}", row.address);
         }
+        true
     }
 
     /// Ends the line that was shown.

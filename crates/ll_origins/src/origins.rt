@@ -190,12 +190,13 @@ impl<
 
     /// Leaves the origin `number`, and says why, if it wasn't left before. Returns false.
     fn leave(&self, number: usize, stopped: Stopped) -> bool {
-        if self.pair.leave(self.rt, number) {
-            match &stopped {
-                Stopped::Refused(line) => self.board.leave(self.rt, number, line.as_str()),
-                Stopped::Fault(fault) => self.board.leave(self.rt, number, *fault),
-            }
-            *self.last.lock(self.rt) = Some(stopped);
+        let (rt, pair) = (self.rt, &self.pair);
+        let is_new = match &stopped {
+            Stopped::Refused(line) => self.board.leave(rt, pair, number, line.as_str()),
+            Stopped::Fault(fault) => self.board.leave(rt, pair, number, *fault),
+        };
+        if is_new {
+            *self.last.lock(rt) = Some(stopped);
         }
         false
     }
