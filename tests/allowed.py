@@ -111,7 +111,7 @@ def strangers_wait(room):
         link.publish('cam secret word', 'ok 0')
         link.publish('cam part hi 1000000 -', 'ok 1')
         took = time.monotonic() - began
-        check(took < PAUSE, f'a publisher waits for {took} s')
+        check(took < 8 * PAUSE, f'a publisher waits for {took} s')
         stranger.answers(*[REFUSED] * 10)
         took = time.monotonic() - began
         check(took >= 10 * PAUSE, f'ten wrong words are answered after {took} s')
