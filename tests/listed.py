@@ -10,7 +10,7 @@ CRATES = ROOT / "crates"
 PARTS = ("src", "specs", "proofs")
 PAGES = [ROOT / "README.md", *sorted((ROOT / "docs").glob("*.md"))]
 # The pages on which each name with a capital or an underscore is one of the code.
-CODE_PAGES = ("ARCHITECTURE", "CHANGING", "GLOSSARY", "PROMISES")
+CODE_PAGES = ("ARCHITECTURE", "CHANGING", "NAMES", "PROMISES")
 WHERE = {"code": "in code", "alone": "in specs and proofs alone", "nowhere": "nowhere"}
 
 

@@ -21,19 +21,19 @@ millis_up micros = (micros + 999) / 1000
 
 -- the course of a rendition that stands at `s`: the encoder's times are counted from where its next part begins
 abbrev pub course_of : Standing → Course
-course_of s = record { place = s.place; clock = from_millis s.time; origin = from_millis s.time }
+course_of s = record { place = s.place; next_start = from_millis s.time; origin = from_millis s.time }
 
 -- when the next part begins after an item is announced
-abbrev pub clock_after : ℕ → Said → ℕ
-clock_after clock said.Init = clock
-clock_after clock (said.Part duration finishes) = up clock duration
-clock_after clock said.Finish = clock
-clock_after clock (said.Break None) = clock
-clock_after clock (said.Break (Some ms)) = from_millis ms
-clock_after clock said.End = clock
+abbrev pub next_start_after : ℕ → Said → ℕ
+next_start_after next_start said.Init = next_start
+next_start_after next_start (said.Part duration finishes) = up next_start duration
+next_start_after next_start said.Finish = next_start
+next_start_after next_start (said.Break None) = next_start
+next_start_after next_start (said.Break (Some ms)) = from_millis ms
+next_start_after next_start said.End = next_start
 
 abbrev pub course_after : Course → Said → Course
-course_after c said = record c { place = led c.place said; clock = clock_after c.clock said }
+course_after c said = record c { place = led c.place said; next_start = next_start_after c.next_start said }
 
 -- the course after a message
 abbrev pub course_by : Course → MessageValue → Course
@@ -43,14 +43,14 @@ course_by c message = course_after c message.said
 
 -- the time that a break before it sets: that of the clock, or none if the rendition's time is past it
 abbrev pub opening_time : Course → ℕ → Option ℕ
-opening_time c now = if nat_lt (from_millis now) c.clock then None else Some now
+opening_time c now = if nat_lt (from_millis now) c.next_start then None else Some now
 
 -- The break before it, and the time that this sets, by the time of the clock in milliseconds. If no part came before, no break is needed
 -- unless the rendition's time is more than a part behind the clock.
 abbrev pub opening : ℕ → Course → ℕ → Option (Option ℕ)
 opening part c now =
     if not (c.place.end == 0) then Some (opening_time c now)
-    else if nat_lt (up c.clock part) (from_millis now) then Some (Some now)
+    else if nat_lt (up c.next_start part) (from_millis now) then Some (Some now)
     else None
 
 abbrev pub opening_messages : Names → Option (Option ℕ) → List MessageValue
@@ -68,7 +68,7 @@ begun names part c now = closing_messages names c.place.index ++ opening_message
 
 -- the time in milliseconds after a gap: that of the encoder, and no earlier than the next part would begin without it
 abbrev pub gap_time : Course → ℕ → ℕ
-gap_time c since = max (millis_up (up c.origin since)) (millis_up c.clock)
+gap_time c since = max (millis_up (up c.origin since)) (millis_up c.next_start)
 
 -- the messages of a piece; `now` is used only if a movie begins
 abbrev pub spoken : Names → ℕ → Course → ℕ → Piece → List MessageValue
@@ -90,7 +90,7 @@ counts_anew (Break (Some since)) = false
 
 abbrev pub rebased : Bool → Course → Course
 rebased false c = c
-rebased true c = record c { origin = c.clock }
+rebased true c = record c { origin = c.next_start }
 
 abbrev pub course_then : Course → List MessageValue → Piece → Course
 course_then c messages piece = rebased (counts_anew piece) (fold course_by c messages)

@@ -19,7 +19,7 @@ pub struct Course {
     /// The place of the next part.
     pub place: Place,
     /// When the next part begins.
-    pub clock: u64,
+    pub next_start: u64,
     /// The time of the tick from which the encoder's times are counted.
     pub origin: u64,
 }
@@ -36,11 +36,11 @@ impl Course {
     pub fn of(standing: &Standing) -> Course
         ensures { result ≡ spec.course_of standing.now }
     {
-        let clock = from_millis(standing.time);
+        let next_start = from_millis(standing.time);
         Course {
             place: standing.place,
-            clock,
-            origin: clock,
+            next_start,
+            origin: next_start,
         }
     }
 
@@ -62,7 +62,7 @@ impl Course {
             Piece::Begin(section) => {
                 self.open(alloc, names, part, now, out)?;
                 self.say(Message::init(alloc, names, section)?, out)?;
-                self.origin = self.clock;
+                self.origin = self.next_start;
                 Ok(())
             }
             Piece::Init(section) => self.say(Message::init(alloc, names, section)?, out),
@@ -70,7 +70,7 @@ impl Course {
             Piece::Finish => self.say(Message::finish(alloc, names)?, out),
             Piece::Break(None) => {
                 self.say(Message::of_break(alloc, names, None)?, out)?;
-                self.origin = self.clock;
+                self.origin = self.next_start;
                 Ok(())
             }
             Piece::Break(Some(since)) => {
@@ -94,10 +94,10 @@ impl Course {
         ensures { self.new ≡ spec.course_after self.old said }
     {
         self.place = self.place.after(said);
-        self.clock = match said {
-            Said::Part { duration, .. } => self.clock.saturating_add(duration),
+        self.next_start = match said {
+            Said::Part { duration, .. } => self.next_start.saturating_add(duration),
             Said::Break { time: Some(ms) } => from_millis(ms),
-            _ => self.clock,
+            _ => self.next_start,
         };
     }
 
@@ -129,8 +129,8 @@ impl Course {
     {
         let time = from_millis(now);
         if self.place.end != 0 {
-            Some(if time < self.clock { None } else { Some(now) })
-        } else if self.clock.saturating_add(part) < time {
+            Some(if time < self.next_start { None } else { Some(now) })
+        } else if self.next_start.saturating_add(part) < time {
             Some(Some(now))
         } else {
             None
@@ -143,6 +143,6 @@ impl Course {
         ensures { result ≡ spec.gap_time self.now since }
     {
         let time = self.origin.saturating_add(since);
-        time.div_ceil(1_000).max(self.clock.div_ceil(1_000))
+        time.div_ceil(1_000).max(self.next_start.div_ceil(1_000))
     }
 }

@@ -14,7 +14,7 @@ use Rattle.ll_check.specs.Lines.{IsShort, lines_at}
 use Rattle.ll_check.specs.Passing.{HasPassed, HasStayed, IsWrongAt}
 use Rattle.ll_check.specs.Steps.{IsOver, Tells, has_entry}
 use Rattle.ll_check.specs.Unread.{IsFaultOf, UnreadValue}
-use Rattle.ll_check.specs.declared.going.Ending.TheVariants.{End}
+use Rattle.ll_check.specs.declared.going.Reached.TheVariants.{End}
 use Rattle.ll_check.specs.declared.replies.EntryReply.{EntryReply}
 use Rattle.ll_check.specs.declared.source.RecordFault.TheVariants.{Wrong}
 use Rattle.ll_check.specs.declared.told.Told.{Told}

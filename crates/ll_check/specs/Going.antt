@@ -4,8 +4,8 @@ use Rattle.ll_attr.specs.Words.{pieces_at}
 use Rattle.ll_check.specs.EntryReplies.{Brings, brought}
 use Rattle.ll_check.specs.Found.{ChainValue, IsAt, so_far}
 use Rattle.ll_check.specs.Steps.{Tells, has_entry, reached}
-use Rattle.ll_check.specs.declared.going.Ending.{Ending}
-use Rattle.ll_check.specs.declared.going.Ending.TheVariants.{End, Entry}
+use Rattle.ll_check.specs.declared.going.Reached.{Reached}
+use Rattle.ll_check.specs.declared.going.Reached.TheVariants.{End, Entry}
 use Rattle.ll_check.specs.declared.replies.EntryReply.{EntryReply}
 use Rattle.ll_check.specs.declared.source.RecordFault.{RecordFault}
 use Rattle.ll_check.specs.declared.source.RecordFault.TheVariants.{Wrong, Unread}
@@ -35,12 +35,12 @@ pub record IsFound (holds : Position → List (List ℕ) → Type 0) (entry : �
   pub held : holds (Inside before) (found.line ∷ pieces_at 10 rest)
 
 -- a record is right and has no entry with this number, and this holds after its last line; or the entry is found
-abbrev pub HasGone : (Position → List (List ℕ) → Type 0) → ℕ → List ℕ → Ending → Type 0
+abbrev pub HasGone : (Position → List (List ℕ) → Type 0) → ℕ → List ℕ → Reached → Type 0
 HasGone holds entry bytes (End n) = (checked bytes ≡ Ok n) × IsAhead entry n × ((before : Option Chain) × holds (Between before) (pieces_at 10 []))
 HasGone holds entry bytes (Entry found) = IsFound holds entry (pieces_at 10 bytes) found
 
 -- an entry is found only if there is one to look for
-abbrev pub IsSought : ℕ → Ending → Type 0
+abbrev pub IsSought : ℕ → Reached → Type 0
 IsSought entry (End n) = Unit
 IsSought entry (Entry found) = 1 ≤ entry
 

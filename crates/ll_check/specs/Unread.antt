@@ -1,8 +1,8 @@
 -- What was read of a record and isn't checked yet, and why the record isn't read to its end.
 use Rattle.std.specs.Prelude.{◌≡◌, ◌≢◌, ℕ, List, None, Err, true}
 use Rattle.ll_attr.specs.Words.{pieces_at}
-use Rattle.ll_check.specs.declared.unread.ReadFault.{ReadFault}
-use Rattle.ll_check.specs.declared.unread.ReadFault.TheVariants.{Read, Endless, Memory}
+use Rattle.ll_check.specs.declared.unread.RecordReadFault.{RecordReadFault}
+use Rattle.ll_check.specs.declared.unread.RecordReadFault.TheVariants.{Read, Endless, Memory}
 use Rattle.ll_check.specs.declared.source.RecordFault.{RecordFault}
 use Rattle.ll_check.specs.declared.source.RecordFault.TheVariants.{Wrong, Unread}
 use Rattle.ll_entry.specs.Chain.{Between, checked, checked_from, not_before}
@@ -14,7 +14,7 @@ pub record UnreadValue : Type 0 where
   pub reads : ℕ
 
 -- why no more was read: a read failed, or as many were made as are allowed
-abbrev pub IsReadFault : Type 0 → Type 0 → ReadFault → Type 0
+abbrev pub IsReadFault : Type 0 → Type 0 → RecordReadFault → Type 0
 IsReadFault failed endless Read = failed
 IsReadFault failed endless Endless = endless
 IsReadFault failed endless Memory = Unit

@@ -20,7 +20,7 @@ use std::alloc::Global;
 
 /// Where a record was gone over to.
 #[derive(Drop)]
-pub enum Ending {
+pub enum Reached {
     /// To its end, which comes after this many entries.
     End(u64),
     /// To the entry that was looked for. Its line and what comes after it weren't passed to the visitor.
@@ -43,8 +43,8 @@ pub fn go_over<R: Reader, S, V: Visitor<S>>(
     ensures stopped { IfErr result (IsStopped (R.failures source.old < R.failures source.new) (R.reads source.new ≡ R.reads source.old + 2 ^ 32)) }
 {
     match go_to(alloc, source, 0, visitor, sink)? {
-        Ending::End(entries) => Ok(entries),
-        Ending::Entry(_) => unreachable!(),
+        Reached::End(entries) => Ok(entries),
+        Reached::Entry(_) => unreachable!(),
     }
 }
 
@@ -55,7 +55,7 @@ pub fn go_to<R: Reader, S, V: Visitor<S>>(
     entry: u64,
     visitor: &mut V,
     sink: &mut S,
-) -> Result<Ending, RecordFault>
+) -> Result<Reached, RecordFault>
     ensures gone { (input : List ℕ) → R.left source.old ≡ Some input
         → IfOk result (HasGone (StillHolds V.holds sink.old visitor.old visitor.new sink.new (pieces_at 10 input)) entry input) }
     ensures sought { IfOk result (IsSought entry) }
@@ -67,13 +67,13 @@ pub fn go_to<R: Reader, S, V: Visitor<S>>(
     let mut unread = Unread::new(alloc);
     'pieces: loop {
         if let Some(found) = reply_at(&mut checker, entry, unread.text())? {
-            return Ok(Ending::Entry(found));
+            return Ok(Reached::Entry(found));
         }
         if pass(&mut checker, &mut unread, visitor, sink)? {
             continue;
         }
         if !unread.read(source)? {
-            return Ok(Ending::End(checker.end(unread.text())?));
+            return Ok(Reached::End(checker.end(unread.text())?));
         }
     }
 }

@@ -17,10 +17,10 @@ mod visitor;
 
 pub use answer::answer_line;
 pub use checker::{Checker, check};
-pub use going::{Ending, go_over, go_to};
+pub use going::{Reached, go_over, go_to};
 pub use laws::record_law;
 pub use replies::EntryReply;
 pub use source::{RecordFault, check_source};
 pub use told::Told;
-pub use unread::ReadFault;
+pub use unread::RecordReadFault;
 pub use visitor::Visitor;

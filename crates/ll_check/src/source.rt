@@ -4,7 +4,7 @@ ghost use Rattle.ll_check.specs.Unread.{IsFaultOf, IsStopped};
 ghost use Rattle.ll_entry.specs.Chain.{checked};
 
 use crate::going::go_over;
-use crate::unread::ReadFault;
+use crate::unread::RecordReadFault;
 use crate::visitor::Silent;
 use ll_device::Reader;
 use ll_entry::CheckFault;
@@ -16,7 +16,7 @@ pub enum RecordFault {
     /// It is wrong, or out of memory.
     Wrong(CheckFault),
     /// It wasn't read to its end.
-    Unread(ReadFault),
+    Unread(RecordReadFault),
 }
 
 impl From<CheckFault> for RecordFault {
@@ -30,13 +30,13 @@ impl From<CheckFault> for RecordFault {
     }
 }
 
-impl From<ReadFault> for RecordFault {
+impl From<RecordReadFault> for RecordFault {
     ghost use Rattle.std.specs.Prelude.{◌≡◌};
     ghost use Rattle.ll_check.specs.declared.source.RecordFault.TheVariants.{Unread};
 
     ghost from_gives = { λ fault given. given ≡ Unread fault };
 
-    fn from(fault: ReadFault) -> RecordFault {
+    fn from(fault: RecordReadFault) -> RecordFault {
         RecordFault::Unread(fault)
     }
 }

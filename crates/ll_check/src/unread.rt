@@ -15,7 +15,7 @@ const MOST_READS: u64 = 1 << 32;
 
 /// Why no more of a record was read.
 #[derive(Clone, Copy)]
-pub enum ReadFault {
+pub enum RecordReadFault {
     /// A read failed.
     Read,
     /// The record didn't end within 2^32 reads.
@@ -77,7 +77,7 @@ impl Unread {
     }
 
     /// Reads once, and returns whether something came. If nothing did, `source` is at its end.
-    pub fn read<R: Reader>(&mut self, source: &mut R) -> Result<bool, ReadFault>
+    pub fn read<R: Reader>(&mut self, source: &mut R) -> Result<bool, RecordReadFault>
         ensures same { OnOk result (Keeps (prepend_known self.old.text (R.left source.old)) (prepend_known self.new.text (R.left source.new))) }
         ensures end { IfOk result (λ came. came ≡ false → (self.new.text ≡ self.old.text) × IsAtEnd (R.left source.new)) }
         ensures fits { OnOk result (length self.new.text < 2 ^ 64) }
@@ -86,13 +86,13 @@ impl Unread {
         ensures fault { IfErr result (IsReadFault (R.failures source.old < R.failures source.new) ((self.old.reads ≡ 0) × (R.reads source.new ≡ R.reads source.old))) }
     {
         if self.reads == 0 {
-            return Err(ReadFault::Endless);
+            return Err(RecordReadFault::Endless);
         }
         if widen(&mut self.piece, &self.bytes[self.at..]).is_err() {
-            return Err(ReadFault::Memory);
+            return Err(RecordReadFault::Memory);
         }
         let Ok(count) = source.read(&mut self.piece) else {
-            return Err(ReadFault::Read);
+            return Err(RecordReadFault::Read);
         };
         self.reads -= 1;
         if count == 0 {
@@ -102,7 +102,7 @@ impl Unread {
         self.at = 0;
         match self.bytes.extend_from_slice(&self.piece[..count]) {
             Ok(()) => Ok(true),
-            Err(AllocError) => Err(ReadFault::Memory),
+            Err(AllocError) => Err(RecordReadFault::Memory),
         }
     }
 }

@@ -2,7 +2,7 @@
 use Rattle.std.specs.Prelude.{ℕ, List, Option, Some, None, Result, Ok, Err}
 use Rattle.ll_mp4.specs.Boxes.{Contents, Ended, Broken, Content, boxes, contents, front_of}
 use Rattle.ll_mp4.specs.Found.{Inner, inner}
-use Rattle.ll_mp4.specs.declared.boxes.Found.{Found}
+use Rattle.ll_mp4.specs.declared.boxes.FoundBox.{FoundBox}
 use Rattle.ll_mp4.specs.declared.fault.StreamFault.{StreamFault}
 use Rattle.ll_mp4.specs.declared.fault.StreamFault.TheVariants.{BadBox}
 
@@ -25,6 +25,6 @@ abbrev pub front : List ℕ → Result Inner StreamFault
 front bytes = some_front (inner (front_of bytes))
 
 -- the same as it is found
-abbrev pub found_front : Result Found StreamFault → Result Inner StreamFault
+abbrev pub found_front : Result FoundBox StreamFault → Result Inner StreamFault
 found_front (Ok f) = Ok (record { kind = f.kind; content = f.content.now; rest = f.rest.now })
 found_front (Err fault) = Err fault

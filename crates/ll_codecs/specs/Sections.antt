@@ -5,7 +5,7 @@ use Rattle.ll_codecs.specs.Children.{child, front}
 use Rattle.ll_codecs.specs.Codecs.{codec_of}
 use Rattle.ll_codecs.specs.Fields.{from, short_at}
 use Rattle.ll_codecs.specs.declared.track.Picture.{Picture}
-use Rattle.ll_codecs.specs.declared.track.Track.{Track}
+use Rattle.ll_codecs.specs.declared.track.CodecTrack.{CodecTrack}
 use Rattle.ll_mp4.specs.Boxes.{Contents, Ended, Broken, Content, contents_in, only}
 use Rattle.ll_mp4.specs.Movies.{has_pictures, movie_of}
 use Rattle.ll_mp4.specs.Numbers.{◌>>=◌}
@@ -40,7 +40,7 @@ entries_in mdia = do
   from 8 stsd
 
 -- a track with the codec of its first sample entry, and the size of its pictures, if its handler is one of pictures
-abbrev pub track_of : List ℕ → Result Track StreamFault
+abbrev pub track_of : List ℕ → Result CodecTrack StreamFault
 track_of trak = do
   mdia ← only Mdia trak
   pictures ← has_pictures (contents_in Hdlr mdia)
@@ -53,7 +53,7 @@ track_of trak = do
 -- ---- all tracks
 
 -- all tracks in order, or the first fault
-abbrev pub tracks_in : Contents → Result (List Track) StreamFault
+abbrev pub tracks_in : Contents → Result (List CodecTrack) StreamFault
 tracks_in Ended = Ok []
 tracks_in Broken = Err BadBox
 tracks_in (Content trak later) = do
@@ -62,7 +62,7 @@ tracks_in (Content trak later) = do
   Ok (track ∷ tracks)
 
 -- the size of the pictures of the first track that has some
-abbrev pub first_picture : List Track → Option Picture
+abbrev pub first_picture : List CodecTrack → Option Picture
 first_picture [] = None
 first_picture (track ∷ tracks) = option_or track.picture (first_picture tracks)
 
@@ -73,7 +73,7 @@ rate_by scale duration = if duration == 0 then None else Some ((scale * 1000 + d
 -- ---- a section
 
 pub record SectionValue : Type 0 where
-  pub tracks : List Track
+  pub tracks : List CodecTrack
   -- the rate of the track that governs: the first with pictures, or else the first
   pub rate : Option ℕ
 
@@ -86,6 +86,6 @@ section_of bytes = do
   Ok (record { tracks = tracks; rate = rate_by movie.governing.scale movie.governing.duration })
 
 -- for private contracts: the tracks after those before
-abbrev pub tracks_after : List Track → Result (List Track) StreamFault → Result (List Track) StreamFault
+abbrev pub tracks_after : List CodecTrack → Result (List CodecTrack) StreamFault → Result (List CodecTrack) StreamFault
 tracks_after before (Err fault) = Err fault
 tracks_after before (Ok tracks) = Ok (before ++ tracks)

@@ -3,10 +3,10 @@ ghost use Rattle.std.specs.Prelude.{◌≡◌, MatchResult, Ok, Err};
 ghost use Rattle.ll_codecs.specs.Children as spec;
 ghost use Rattle.ll_codecs.specs.Children.{found_front};
 
-use ll_mp4::{Found, StreamFault, read_front};
+use ll_mp4::{FoundBox, StreamFault, read_front};
 
 /// Reads the box at the front of `bytes`, which must be whole boxes.
-pub(crate) fn front(bytes: &[u8]) -> Result<Found<'_>, StreamFault>
+pub(crate) fn front(bytes: &[u8]) -> Result<FoundBox<'_>, StreamFault>
     ensures { found_front result ≡ spec.front bytes.now }
 {
     match read_front(bytes)? {

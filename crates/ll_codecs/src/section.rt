@@ -2,14 +2,14 @@
 ghost use Rattle.std.specs.Prelude.{◌≡◌, ◌⊎◌, MatchResult, Ok, Err};
 ghost use Rattle.ll_codecs.specs.Sections as spec;
 
-use crate::track::{Picture, Track, read_tracks};
+use crate::track::{Picture, CodecTrack, read_tracks};
 use ll_mp4::{Kind, StreamFault, only, read_movie};
 use std::alloc::Global;
 use std::marker::Model;
 
 /// What a Media Initialization Section says of its tracks.
 pub struct Section {
-    tracks: Vec<Track>,
+    tracks: Vec<CodecTrack>,
     rate: Option<u64>,
 }
 
@@ -32,7 +32,7 @@ impl Model for Section {
 
 impl Section {
     /// Returns the tracks, in their order.
-    pub fn tracks(&self) -> &[Track]
+    pub fn tracks(&self) -> &[CodecTrack]
         ensures { result.now ≡ self.now.tracks }
     {
         &self.tracks
@@ -55,7 +55,7 @@ impl Section {
 }
 
 /// Returns the size of the pictures of the first of `tracks` that has some.
-fn first_picture(tracks: &[Track]) -> Option<Picture>
+fn first_picture(tracks: &[CodecTrack]) -> Option<Picture>
     ensures { result ≡ spec.first_picture tracks.now }
 {
     let mut left = tracks;

@@ -23,16 +23,16 @@ pub struct Picture {
 }
 
 /// A track of a Media Initialization Section.
-pub struct Track {
+pub struct CodecTrack {
     /// The codec of its samples, as RFC 6381 spells it.
     pub codec: Text,
     /// The size of its pictures, if it has some.
     pub picture: Option<Picture>,
 }
 
-impl Drop for Track {
+impl Drop for CodecTrack {
     fn drop(self) {
-        let Track {
+        let CodecTrack {
             codec: _codec,
             picture: _picture,
         } = self;
@@ -53,7 +53,7 @@ const STSD: u32 = 0x7374_7364;
 
 /// Reads the tracks of the movie whose box has the content `moov`.
 #[tactic(auto, using(crate::proofs::TrackLemmas::tracks_more, crate::proofs::TrackLemmas::tracks_done))]
-pub(crate) fn read_tracks(alloc: Global, moov: &[u8]) -> Result<Vec<Track>, StreamFault>
+pub(crate) fn read_tracks(alloc: Global, moov: &[u8]) -> Result<Vec<CodecTrack>, StreamFault>
     ensures { MatchResult result (λ tracks. tracks_after [] (tracks_in (contents_in Trak moov.now)) ≡ Ok tracks.items)
         (λ fault. (tracks_after [] (tracks_in (contents_in Trak moov.now)) ≡ Err fault) ⊎ (fault ≡ StreamFault.Memory)) }
 {
@@ -70,7 +70,7 @@ pub(crate) fn read_tracks(alloc: Global, moov: &[u8]) -> Result<Vec<Track>, Stre
 }
 
 /// Reads the track whose box has the content `trak`.
-fn read_track(alloc: Global, trak: &[u8]) -> Result<Track, StreamFault>
+fn read_track(alloc: Global, trak: &[u8]) -> Result<CodecTrack, StreamFault>
     ensures { MatchResult result (λ track. spec.track_of trak.now ≡ Ok track)
         (λ fault. (spec.track_of trak.now ≡ Err fault) ⊎ (fault ≡ StreamFault.Memory)) }
 {
@@ -80,7 +80,7 @@ fn read_track(alloc: Global, trak: &[u8]) -> Result<Track, StreamFault>
     let entry = front(entries)?;
     let codec = read_codec(alloc, entry.kind, entry.content)?;
     let picture = picture_by(pictures, entry.content)?;
-    Ok(Track { codec, picture })
+    Ok(CodecTrack { codec, picture })
 }
 
 /// Returns whether a track has pictures, by its first handler (section 8.4.3).

@@ -6,8 +6,8 @@ use Rattle.ll_check.specs.Going.{IsEarly}
 use Rattle.ll_check.specs.Unread.{IsFaultOf, IsReadFault, IsStopped}
 use Rattle.ll_check.specs.declared.source.RecordFault.{RecordFault}
 use Rattle.ll_check.specs.declared.source.RecordFault.TheVariants.{Wrong, Unread}
-use Rattle.ll_check.specs.declared.unread.ReadFault.{ReadFault}
-use Rattle.ll_check.specs.declared.unread.ReadFault.TheVariants as unread
+use Rattle.ll_check.specs.declared.unread.RecordReadFault.{RecordReadFault}
+use Rattle.ll_check.specs.declared.unread.RecordReadFault.TheVariants as unread
 use Rattle.ll_command.specs.Status.{changed_by, changed_fault, read_fault}
 use Rattle.ll_command.specs.declared.fault.Fault.{Fault}
 use Rattle.ll_command.specs.declared.fault.Fault.TheVariants.{Read, Endless, Changed}
@@ -19,17 +19,17 @@ use Rattle.ll_explain.specs.Words.{IsExplanation}
 
 -- ---- of a record that wasn't read to its end
 
-pub read-failed : (f : ReadFault) (failed endless : Type 0) (x : Fault) → x ≡ read_fault f → IsReadFault failed endless f → IsErrOf {T = Bool} (Err x) Read → failed
+pub read-failed : (f : RecordReadFault) (failed endless : Type 0) (x : Fault) → x ≡ read_fault f → IsReadFault failed endless f → IsErrOf {T = Bool} (Err x) Read → failed
 read-failed unread.Read failed endless x is h e = h
 read-failed unread.Endless failed endless x is h e = cc
 read-failed unread.Memory failed endless x is h e = cc
 
-pub read-endless : (f : ReadFault) (failed endless : Type 0) (x : Fault) → x ≡ read_fault f → IsReadFault failed endless f → IsErrOf {T = Bool} (Err x) Endless → endless
+pub read-endless : (f : RecordReadFault) (failed endless : Type 0) (x : Fault) → x ≡ read_fault f → IsReadFault failed endless f → IsErrOf {T = Bool} (Err x) Endless → endless
 read-endless unread.Read failed endless x is h e = cc
 read-endless unread.Endless failed endless x is h e = h
 read-endless unread.Memory failed endless x is h e = cc
 
-not-changed : (f : ReadFault) (x : Fault) (P : Type 0) → x ≡ read_fault f → IsErrOf {T = Bool} (Err x) Changed → P
+not-changed : (f : RecordReadFault) (x : Fault) (P : Type 0) → x ≡ read_fault f → IsErrOf {T = Bool} (Err x) Changed → P
 not-changed unread.Read x P is e = cc
 not-changed unread.Endless x P is e = cc
 not-changed unread.Memory x P is e = cc

@@ -5,10 +5,10 @@ use Rattle.ll_check.specs.Answer.{answer_line}
 use Rattle.ll_entry.specs.Chain.{Between, Chain, checked, checked_from}
 use Rattle.ll_entry.specs.declared.fault.CheckFault.{CheckFault}
 use Rattle.ll_multivariant.specs.Naming.{multivariant}
-use Rattle.ll_multivariant.specs.declared.naming.Source.{Source}
+use Rattle.ll_multivariant.specs.declared.naming.NamedSection.{NamedSection}
 
 -- the playlist of the last chain of a record; or, if the record is wrong, the line that says how
-abbrev pub IsMultivariant : List ℕ → List Source → Bool → List ℕ → Type 0
+abbrev pub IsMultivariant : List ℕ → List NamedSection → Bool → List ℕ → Type 0
 IsMultivariant bytes sources true text =
     (ch : Chain) × (checked_from (Between None) (pieces_at 10 bytes) ≡ Ok (Some ch)) × (multivariant ch sources ≡ Ok text)
 IsMultivariant bytes sources false text = (f : CheckFault) × (checked bytes ≡ Err f) × (text ≡ answer_line (Err f))

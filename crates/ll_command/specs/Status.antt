@@ -4,8 +4,8 @@ use Rattle.ll_apply.specs.declared.fault.ApplyFault.{ApplyFault}
 use Rattle.ll_apply.specs.declared.fault.ApplyFault.TheVariants as apply
 use Rattle.ll_check.specs.declared.source.RecordFault.{RecordFault}
 use Rattle.ll_check.specs.declared.source.RecordFault.TheVariants.{Wrong, Unread}
-use Rattle.ll_check.specs.declared.unread.ReadFault.{ReadFault}
-use Rattle.ll_check.specs.declared.unread.ReadFault.TheVariants as unread
+use Rattle.ll_check.specs.declared.unread.RecordReadFault.{RecordReadFault}
+use Rattle.ll_check.specs.declared.unread.RecordReadFault.TheVariants as unread
 use Rattle.ll_entry.specs.declared.fault.CheckKind.{CheckKind}
 use Rattle.ll_entry.specs.declared.fault.CheckKind.TheVariants as kind
 use Rattle.ll_push.specs.declared.fault.PushFault.{PushFault}
@@ -16,7 +16,7 @@ use Rattle.ll_command.specs.declared.fault.Fault.{Fault}
 use Rattle.ll_command.specs.declared.fault.Fault.TheVariants.{Usage, Read, Endless, Changed, Write, Memory, Replay, BadLine, NoEntry, NoRendition, BadInit, NoSegment, TooLarge, Listen, Clock, Apply, Push}
 
 -- the fault of a record that wasn't read to its end
-abbrev pub read_fault : ReadFault → Fault
+abbrev pub read_fault : RecordReadFault → Fault
 read_fault unread.Read = Read
 read_fault unread.Endless = Endless
 read_fault unread.Memory = Memory

@@ -4,7 +4,7 @@ ghost use Rattle.ll_command.specs.Status.{status_of};
 ghost use Rattle.ll_command.specs.Status as spec;
 
 use ll_apply::ApplyFault;
-use ll_check::{ReadFault, RecordFault};
+use ll_check::{RecordReadFault, RecordFault};
 use ll_entry::{CheckFault, CheckKind};
 use ll_push::PushFault;
 use ll_replay::RunFault;
@@ -103,13 +103,13 @@ impl Fault {
 }
 
 /// Returns the fault of a record that wasn't read to its end.
-pub(crate) fn read_fault(fault: ReadFault) -> Fault
+pub(crate) fn read_fault(fault: RecordReadFault) -> Fault
     ensures { result ≡ spec.read_fault fault }
 {
     match fault {
-        ReadFault::Read => Fault::Read,
-        ReadFault::Endless => Fault::Endless,
-        ReadFault::Memory => Fault::Memory,
+        RecordReadFault::Read => Fault::Read,
+        RecordReadFault::Endless => Fault::Endless,
+        RecordReadFault::Memory => Fault::Memory,
     }
 }
 

@@ -8,7 +8,7 @@ ghost use Rattle.ll_command.specs.Status as spec;
 
 use crate::fault::Fault;
 use crate::writing::{write_answer, write_out};
-use ll_multivariant::{MultivariantFault, Source, multivariant};
+use ll_multivariant::{MultivariantFault, NamedSection, multivariant};
 use std::alloc::Global;
 use std::io::Write;
 
@@ -17,7 +17,7 @@ use std::io::Write;
 pub fn write_multivariant<W: Write>(
     alloc: Global,
     chunks: &[u8],
-    sources: &[Source],
+    sources: &[NamedSection],
     out: &mut W,
 ) -> Result<bool, Fault>
     ensures written { IfOk result (λ right. (text : List ℕ) × IsMultivariant chunks.now sources.now right text × Appends (W.contents out.old) (W.contents out.new) text) }

@@ -1,13 +1,13 @@
-//! The gate that answers pass before they are sent, and by which connections report what they get.
+//! The gate that is called before each answer is sent, and by which connections report what they get.
 use ll_item::Item;
 use ll_publish::{Refusal, Success};
 use ll_wire::Answer;
 
-/// A gate that each answer passes before it is sent, and an observer of what connections get. Channels are given by their places. Only
-/// `pass` has to be written: the other calls do nothing by default.
+/// A gate that is called before each answer is sent, and an observer of what connections get. Channels are given by their places. Only
+/// `before_answer` has to be written: the other calls do nothing by default.
 pub trait Gate {
     /// Is called before an answer is sent; `call` is its number on its connection, from 1.
-    fn pass(&self, call: u64);
+    fn before_answer(&self, call: u64);
 
     /// Is called when a player's request of a channel has its answer.
     fn answered(&self, _channel: usize, _answer: &Answer) {}

@@ -91,7 +91,7 @@ impl<R: Clock> Numbers<'_, R> {
 }
 
 impl<R: Clock> Gate for Numbers<'_, R> {
-    fn pass(&self, _call: u64) {}
+    fn before_answer(&self, _call: u64) {}
 
     fn answered(&self, channel: usize, answer: &Answer) {
         if let Some(counts) = self.channels.get(channel) {

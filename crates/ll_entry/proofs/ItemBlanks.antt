@@ -12,7 +12,7 @@ use Rattle.ll_rendition.specs.Kept.{kept}
 use Rattle.ll_rendition.specs.Refusal.{rendition_refusal}
 use Rattle.ll_verdict.specs.Accepted.{refusal}
 use Rattle.ll_window.proofs.StepLemmas.{kept_of}
-use Rattle.ll_window.specs.Compact.{clock, compact}
+use Rattle.ll_window.specs.Compact.{next_start, compact}
 use Rattle.ll_window.specs.Numbers.{last_place, numbered_parts}
 use Rattle.ll_window.specs.Refusal as window
 use Rattle.ll_window.specs.Rows.{Row, rows}
@@ -96,11 +96,11 @@ each-blank c xs r (name ∷ names) =
 
 window-blank : (c : Configuration) (xs : List Item) (i : Item) → window.refusal c (map blank xs) (blank i) ≡ window.refusal c xs i
 window-blank c xs (item.Part p) =
-    ap (λ (t : Told). window.refusal_by t.ended (window.part_refusal c (c.first + length (finished_of t)) (duration (open_of t)) (clock (kept_of c t)) p.duration)) (told-blank xs)
+    ap (λ (t : Told). window.refusal_by t.ended (window.part_refusal c (c.first + length (finished_of t)) (duration (open_of t)) (next_start (kept_of c t)) p.duration)) (told-blank xs)
 window-blank c xs (item.Init r media) = ap (λ (t : Told). window.refusal_by t.ended None) (told-blank xs)
 window-blank c xs (item.Finish r) = ap (λ (t : Told). window.refusal_by t.ended (window.finish_refusal (open_of t))) (told-blank xs)
 window-blank c xs (item.Break r time) =
-    ap (λ (t : Told). window.refusal_by t.ended (window.break_refusal (open_of t) (clock (kept_of c t)) time)) (told-blank xs)
+    ap (λ (t : Told). window.refusal_by t.ended (window.break_refusal (open_of t) (next_start (kept_of c t)) time)) (told-blank xs)
 window-blank c xs (item.End r) = ap (λ (t : Told). window.refusal_by t.ended None) (told-blank xs)
 window-blank c xs (item.Range r id attributes) = ap (λ (t : Told). window.refusal_by t.ended None) (told-blank xs)
 window-blank c xs (item.Unrange r id) = ap (λ (t : Told). window.refusal_by t.ended None) (told-blank xs)

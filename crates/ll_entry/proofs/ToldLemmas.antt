@@ -20,7 +20,7 @@ use Rattle.ll_verdict.specs.Full.{is_full, refusal_after}
 use Rattle.ll_verdict.specs.Events.{Event, Publish, Ask, Collect, Close, Clock, asks, steps_from}
 use Rattle.ll_verdict.specs.Outcome.{outcome_of}
 use Rattle.ll_verdict.specs.State.{open_requests, slot_of, state_of}
-use Rattle.ll_verdict.specs.Verdict.{Request, at_once, held, reply, reply_of}
+use Rattle.ll_verdict.specs.Verdict.{Pending, at_once, held, reply, reply_of}
 use Rattle.ll_rendition.specs.declared.fault.PublishFault.{PublishFault}
 use Rattle.ll_verdict.specs.declared.reply.Outcome.{Outcome}
 use Rattle.ll_verdict.specs.declared.reply.Outcome.TheVariants.{Text, Media, NotFound, TooFar, Busy, Timeout}
@@ -146,7 +146,7 @@ settled-is c before ask =
     ap (option_map (λ (s : Settled). outcome_of (reply_of s)))
     (find-map (slot_of c before) (λ s. s.settled) (λ s. s.entry.ticket == ask && is_some s.settled) (open_requests c before))
 
-open-is : (c : Configuration) (before : List Event) (ask : ℕ) → is_open_after c before ask ≡ list_any (λ (r : Request). r.ticket == ask) (open_requests c before)
+open-is : (c : Configuration) (before : List Event) (ask : ℕ) → is_open_after c before ask ≡ list_any (λ (r : Pending). r.ticket == ask) (open_requests c before)
 open-is c before ask = any-map (slot_of c before) (has_ticket ask) (open_requests c before)
 
 -- ---- what a format keeps
@@ -256,5 +256,5 @@ told-right v c before (Collect ask) entry h =
       refl,
     )
 told-right v c before (Close ask) entry h =
-    let p = where_it_is (list_any (λ (r : Request). r.ticket == ask) (open_requests c before)) (recorded.Close ask) entry h in
+    let p = where_it_is (list_any (λ (r : Pending). r.ticket == ask) (open_requests c before)) (recorded.Close ask) entry h in
     subst (λ x. IsRight v c before (Close ask) (as_told v x)) p.1 (right (is_open_after c before ask) true (open-is c before ask ∙ p.0) refl, refl)

@@ -10,7 +10,7 @@ use Rattle.ll_item.specs.ItemLines.{IsTyped}
 use Rattle.ll_entry.specs.ItemLaws.{IsBreakTime, IsWritable}
 use Rattle.ll_verdict.specs.Events.{Event, items}
 use Rattle.ll_item.specs.declared.part.Part.{Part}
-use Rattle.ll_window.specs.Compact.{clock, compact}
+use Rattle.ll_window.specs.Compact.{next_start, compact}
 use Rattle.ll_window.specs.Refusal.{break_refusal, part_refusal, refusal_before_end, refusal_by}
 use Rattle.ll_item.specs.Told.{end_time}
 use Rattle.ll_window.specs.Segments.{ended, open_segment, own}
@@ -46,7 +46,7 @@ by_kind c events (item.Finish r) w t h = t.named
 by_kind c events (item.Break r time) w t h =
     let before = own r (items c events) in
     let not_late = before_end (ended before) (refusal_before_end c before (item.Break r time)) t.window in
-    (t.named, break_time (open_segment before) (clock (compact c before)) time not_late)
+    (t.named, break_time (open_segment before) (next_start (compact c before)) time not_late)
 by_kind c events (item.End r) w t h = t.named
 by_kind c events (item.Range r id attributes) w t h =
     let before = own r (items c events) in

@@ -10,7 +10,7 @@ use Rattle.ll_verdict.specs.Full.{is_full, refusal_after}
 use Rattle.ll_verdict.specs.Events.{Event, Publish, Ask, Collect, Close, Clock, Step, asks}
 use Rattle.ll_verdict.specs.Outcome.{outcome_of}
 use Rattle.ll_verdict.specs.State.{open_requests}
-use Rattle.ll_verdict.specs.Verdict.{Request, at_once, held, reply, reply_of}
+use Rattle.ll_verdict.specs.Verdict.{Pending, at_once, held, reply, reply_of}
 use Rattle.ll_verdict.specs.declared.reply.Outcome.{Outcome}
 use Rattle.ll_verdict.specs.declared.reply.Settled.{Settled}
 use Rattle.ll_entry.specs.Leads.{with_end}
@@ -18,7 +18,7 @@ use Rattle.ll_entry.specs.Replies.{told_in}
 use Rattle.ll_entry.specs.declared.version.Version.{Version}
 
 -- the open request with this number, if it has its reply
-abbrev pub replied : Configuration → List Event → ℕ → Option Request
+abbrev pub replied : Configuration → List Event → ℕ → Option Pending
 replied c before ask = find (λ r. r.ticket == ask && is_some (reply c before r)) (open_requests c before)
 
 -- the outcome of that reply

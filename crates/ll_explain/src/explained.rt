@@ -8,7 +8,7 @@ ghost use Rattle.ll_explain.specs.Explained.{HasNoEntry, IsExplained};
 ghost use Rattle.ll_explain.specs.Seeking.{time_told};
 
 use ll_attr::Text;
-use ll_check::{Ending, EntryReply, RecordFault, Told, Visitor, go_to};
+use ll_check::{Reached, EntryReply, RecordFault, Told, Visitor, go_to};
 use ll_device::Reader;
 use ll_entry_check::FullEntry;
 use ll_verdict::Reply;
@@ -50,8 +50,8 @@ pub fn explain<R: Reader>(
 {
     let mut time = 0;
     match go_to(alloc, source, entry, &mut Timed, &mut time) {
-        Ok(Ending::Entry(EntryReply { line, reply })) => Ok(Explained { time, line, reply }),
-        Ok(Ending::End(_)) => Err(ExplainFault::NoEntry),
+        Ok(Reached::Entry(EntryReply { line, reply })) => Ok(Explained { time, line, reply }),
+        Ok(Reached::End(_)) => Err(ExplainFault::NoEntry),
         Err(fault) => Err(ExplainFault::Record(fault)),
     }
 }

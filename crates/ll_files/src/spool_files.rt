@@ -3,7 +3,7 @@ ghost use Rattle.std.specs.Prelude.{None};
 
 use crate::side_file::SideFile;
 use ll_attr::Text;
-use ll_layout::{Place, Side};
+use ll_layout::{Extent, Side};
 use ll_settings::Settings;
 use ll_spool::{Disk, Lost};
 use std::alloc::{AllocError, Global};
@@ -211,7 +211,7 @@ impl<R: Eprint> Disk for SpoolFiles<'_, R> {
         self.told(done)
     }
 
-    fn read(&self, rendition: usize, place: Place, bytes: &mut [u8]) -> bool {
+    fn read(&self, rendition: usize, place: Extent, bytes: &mut [u8]) -> bool {
         let Some(sides) = self.sides.get(rendition) else {
             return false;
         };

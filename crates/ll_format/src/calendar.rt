@@ -1,4 +1,4 @@
-//! The date of a day number.
+//! The date of a day number, by `jiff_core`: the port of `jiff` itself has no call for it.
 ghost use Rattle.std.specs.Prelude.{◌≡◌, ◌≤◌, unsigned_abs};
 ghost use Rattle.ll_format.specs.Calendar.{CalendarLaw, last_day, nth_date};
 

@@ -14,7 +14,7 @@ use Rattle.ll_verdict.specs.Events.{Event, asks, items, time}
 use Rattle.ll_verdict.specs.Standing.{standing}
 use Rattle.ll_verdict.specs.State.{open_requests, slot_of, state_of}
 use Rattle.ll_verdict.specs.Verdict as verdict
-use Rattle.ll_verdict.specs.Verdict.{Request, at_once, held, reply_of, wanted_of}
+use Rattle.ll_verdict.specs.Verdict.{Pending, at_once, held, reply_of, wanted_of}
 use Rattle.ll_verdict.specs.Waiting.{found}
 use Rattle.ll_verdict.specs.declared.entry.Entry.{Entry}
 use Rattle.ll_rendition.specs.Refusal.{first_refusal}
@@ -82,7 +82,7 @@ IsReadingRefused filled ms reading.Memory = (ms ≤ 2 ^ 60) × (filled ≡ false
 
 -- this request had to wait, and this is what it gets
 pub record IsDecided (c : Configuration) (events : List Event) (waiting : Entry) (reply : Reply) : Type 0 where
-  pub request : Request
+  pub request : Pending
   pub place : ℕ
   pub waited : slice_get (held c events) place ≡ Some request
   pub entry : (slot_of c events request).entry ≡ waiting

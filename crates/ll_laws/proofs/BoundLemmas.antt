@@ -8,12 +8,12 @@ use Rattle.ll_item.specs.declared.item.Item.{Item}
 use Rattle.ll_item.specs.declared.item.Item.TheVariants as item
 use Rattle.ll_item.specs.declared.part.Part.{Part}
 use Rattle.ll_window.specs.declared.part_position.PartPosition.{PartPosition}
-use Rattle.ll_window.specs.Compact.{Compact, clock, clock_by, compact, opens_by}
+use Rattle.ll_window.specs.Compact.{Compact, next_start, next_start_by, compact, opens_by}
 use Rattle.ll_window.specs.Refusal.{break_refusal, part_refusal, refusal_before_end}
 use Rattle.ll_window.specs.Rows.{restarted}
 use Rattle.ll_window.specs.Segments.{duration, ended}
 use Rattle.ll_window.specs.Step.{after_segment, with_part_by, with_break, with_item, ended_by, finished_by}
-use Rattle.ll_window.proofs.KeptLemmas.{limits, opens-clock}
+use Rattle.ll_window.proofs.KeptLemmas.{limits, opens-next-start}
 use Rattle.ll_window.proofs.SplitLemmas.{duration-last}
 use Rattle.ll_window.proofs.StepLemmas.{compact-snoc, duration-snoc}
 use Rattle.ll_item.specs.Told.{finished_last}
@@ -40,7 +40,7 @@ some_micro : (c : Configuration) (n lasts ends micros : ℕ) → part_refusal c 
 some_micro c n lasts ends micros e = grind (arith, nat_tests, e)
 
 -- the next part begins no sooner than the last one ends
-begins : (ps : List Part) (o : Option ℕ) (time : ℕ) → time + duration ps ≤ restarted o (time + duration ps) → time + duration ps ≤ clock_by ps o time
+begins : (ps : List Part) (o : Option ℕ) (time : ℕ) → time + duration ps ≤ restarted o (time + duration ps) → time + duration ps ≤ next_start_by ps o time
 begins [] o time le =
     let same : time + 0 ≡ time = omega arith in
     let h = subst (λ t. t ≤ restarted o t) same le in
@@ -48,16 +48,16 @@ begins [] o time le =
 begins (p ∷ ps) o time le = omega arith
 
 -- with one more part they end where that one does
-ends-on : (k : Compact) (p : Part) → opens_by k.open_parts k.restart k.open_time + duration (k.open_parts ++ p ∷ []) ≡ clock k + p.duration
+ends-on : (k : Compact) (p : Part) → opens_by k.open_parts k.restart k.open_time + duration (k.open_parts ++ p ∷ []) ≡ next_start k + p.duration
 ends-on k p =
     let d = duration-snoc k.open_parts p in
-    let o = opens-clock k.open_parts k.restart k.open_time in
+    let o = opens-next-start k.open_parts k.restart k.open_time in
     omega (arith, d, o)
 
-part_step : (b : Bool) (k : Compact) (p : Part) → IsBounded k → part_refusal k.settings k.next_number (duration k.open_parts) (clock k) p.duration ≡ None
+part_step : (b : Bool) (k : Compact) (p : Part) → IsBounded k → part_refusal k.settings k.next_number (duration k.open_parts) (next_start k) p.duration ≡ None
     → IsBounded (with_part_by b k p)
 part_step true k p h none =
-    let l = limits k.settings k.next_number (duration k.open_parts) (clock k) p.duration none in
+    let l = limits k.settings k.next_number (duration k.open_parts) (next_start k) p.duration none in
     let l0 = l.0 in
     let l1 = l.1 in
     let later = begins k.open_parts k.restart k.open_time h.forward in
@@ -72,12 +72,12 @@ part_step true k p h none =
       placed = (l0, omega (arith, h.few, h.ends, h.forward, h.times));
     }
 part_step false k p h none =
-    let l = limits k.settings k.next_number (duration k.open_parts) (clock k) p.duration none in
+    let l = limits k.settings k.next_number (duration k.open_parts) (next_start k) p.duration none in
     let l0 = l.0 in
     let l1 = l.1 in
     let later = begins k.open_parts k.restart k.open_time h.forward in
     let e = ends-on k p in
-    let some = some_micro k.settings k.next_number (duration k.open_parts) (clock k) p.duration none in
+    let some = some_micro k.settings k.next_number (duration k.open_parts) (next_start k) p.duration none in
     let more = length-append k.open_parts (p ∷ []) in
     record {
       numbers = h.numbers;
@@ -115,14 +115,14 @@ finish_step (p ∷ ps) k is h =
 
 -- a time that may be set is no sooner than the last part's end, and before the year 10000
 break_set : (ps : List Part) (o : Option ℕ) (time ms : ℕ) → time + duration ps ≤ restarted o (time + duration ps)
-    → break_refusal ps (clock_by ps o time) (Some ms) ≡ None → (time + duration ps ≤ ms * 1000) × (ms * 1000 ≤ last_micro)
+    → break_refusal ps (next_start_by ps o time) (Some ms) ≡ None → (time + duration ps ≤ ms * 1000) × (ms * 1000 ≤ last_micro)
 break_set (p ∷ ps) o time ms le none = cc
 break_set [] o time ms le none =
     let later = begins [] o time le in
     let set : (restarted o time ≤ ms * 1000) × (ms * 1000 ≤ last_micro) = grind (arith, nat_tests, none) in
     (omega (arith, later, set.0), set.1)
 
-break_step : (k : Compact) (time : Option ℕ) → IsBounded k → break_refusal k.open_parts (clock k) time ≡ None → IsBounded (with_break k time)
+break_step : (k : Compact) (time : Option ℕ) → IsBounded k → break_refusal k.open_parts (next_start k) time ≡ None → IsBounded (with_break k time)
 break_step k None h none = record { numbers = h.numbers; opens = h.opens; ends = h.ends; forward = h.forward; times = h.times; few = h.few; placed = h.placed }
 break_step k (Some ms) h none =
     let set = break_set k.open_parts k.restart k.open_time ms h.forward none in

@@ -7,7 +7,7 @@ use Rattle.ll_item.specs.declared.item.Item.{Item}
 use Rattle.ll_item.specs.declared.item.Item.TheVariants as item
 use Rattle.ll_item.specs.declared.part.Part.{Part}
 use Rattle.ll_window.specs.declared.fault.WindowFault.{WindowFault}
-use Rattle.ll_window.specs.Compact.{Compact, clock, compact, skip_count}
+use Rattle.ll_window.specs.Compact.{Compact, next_start, compact, skip_count}
 use Rattle.ll_window.specs.Refusal.{part_refusal, refusal, refusal_by, refusal_before_end}
 use Rattle.ll_window.specs.Rows.{Row, lasting}
 use Rattle.ll_window.specs.Segments.{own, segments, open_segment, duration, ended}
@@ -50,7 +50,7 @@ finish_step (p ∷ ps) k limit le = omega arith
 item_step : (c : Configuration) (before : List Item) (i : Item) → 1 ≤ c.target → 6 * c.target ≤ c.skip → refusal_before_end c before i ≡ None
     → duration (open_segment before) ≤ skip_limit c → duration (with_item (compact c before) i).open_parts ≤ skip_limit c
 item_step c before (item.Part p) one six none le =
-    let low = part_limit c (c.first + length (segments before)) (duration (open_segment before)) (clock (compact c before)) p.duration none in
+    let low = part_limit c (c.first + length (segments before)) (duration (open_segment before)) (next_start (compact c before)) p.duration none in
     part_step p.finish (compact c before) _ (skip_limit c) (short (skip_limit c) c.target c.skip (duration (open_segment before) + p.duration) one six refl low)
 item_step c before (item.Finish r) one six none le = finish_step (open_segment before) (compact c before) (skip_limit c) le
 item_step c before (item.Break r time) one six none le = le

@@ -8,8 +8,8 @@ use Rattle.ll_layout.specs.Moves.{IsTidy, added, first_shown, and_part, and_sect
 use Rattle.ll_layout.specs.declared.side.Side.{Side}
 use Rattle.ll_layout.specs.declared.side.Side.TheVariants.{A, B}
 use Rattle.ll_layout.specs.declared.stored.KeptPart.{KeptPart}
-use Rattle.ll_layout.specs.declared.stored.Section.{Section}
-use Rattle.ll_layout.specs.declared.stored.Stored.{Stored}
+use Rattle.ll_layout.specs.declared.stored.StoredSection.{StoredSection}
+use Rattle.ll_layout.specs.declared.stored.StoredItem.{StoredItem}
 use Rattle.ll_window.specs.Compact.{Compact, first_map, map_now}
 
 abbrev Files : Type 0
@@ -58,7 +58,7 @@ long-by : (files : Files) (side : Side) (bytes : List ℕ) (end : ℕ) → lengt
 long-by files side bytes end h =
     ap length (at-here side files (files side ++ bytes)) ∙ (let n : length (files side ++ bytes) ≡ length (files side) + length bytes = length-append (files side) bytes in omega (arith, n, h))
 
-held-on : (files : Files) (of : ℕ → List ℕ) (side : Side) (more : List ℕ) (s : Stored) → IsHeld files of s → IsHeld (with_file side (files side ++ more) files) of s
+held-on : (files : Files) (of : ℕ → List ℕ) (side : Side) (more : List ℕ) (s : StoredItem) → IsHeld files of s → IsHeld (with_file side (files side ++ more) files) of s
 held-on files of side more s h = record { at = at-by files side s.place.side more s.place.offset (of s.count) h.at; length = h.length }
 
 parts-on : (files : Files) (of : ℕ → List ℕ) (side : Side) (more : List ℕ) (ps : List KeptPart) → Each (λ (p : KeptPart). IsHeld files of p.stored) ps
@@ -66,8 +66,8 @@ parts-on : (files : Files) (of : ℕ → List ℕ) (side : Side) (more : List �
 parts-on files of side more [] a = a
 parts-on files of side more (p ∷ ps) a = (held-on files of side more p.stored a.0, parts-on files of side more ps a.1)
 
-sections-on : (files : Files) (of : ℕ → List ℕ) (side : Side) (more : List ℕ) (ss : List Section) → Each (λ (s : Section). IsHeld files of s.stored) ss
-    → Each (λ (s : Section). IsHeld (with_file side (files side ++ more) files) of s.stored) ss
+sections-on : (files : Files) (of : ℕ → List ℕ) (side : Side) (more : List ℕ) (ss : List StoredSection) → Each (λ (s : StoredSection). IsHeld files of s.stored) ss
+    → Each (λ (s : StoredSection). IsHeld (with_file side (files side ++ more) files) of s.stored) ss
 sections-on files of side more [] a = a
 sections-on files of side more (s ∷ ss) a =
     (held-on files of side more s.stored a.0, sections-on files of side more ss a.1)
@@ -76,7 +76,7 @@ sections-on files of side more (s ∷ ss) a =
 record AreHeld (files : Files) (of : ℕ → List ℕ) (l : LayoutValue) : Type 0 where
   older : Each (λ (p : KeptPart). IsHeld files of p.stored) l.older
   newer : Each (λ (p : KeptPart). IsHeld files of p.stored) l.newer
-  sections : Each (λ (s : Section). IsHeld files of s.stored) l.sections
+  sections : Each (λ (s : StoredSection). IsHeld files of s.stored) l.sections
 
 all-on : (files : Files) (of : ℕ → List ℕ) (side : Side) (more : List ℕ) (l : LayoutValue) → Holds files of l → AreHeld (with_file side (files side ++ more) files) of l
 all-on files of side more l h = record {
@@ -98,8 +98,8 @@ and-part : (P : KeptPart → Type 0) (n : ℕ) (p : KeptPart) (ps : List KeptPar
 and-part P zero p ps all one = all
 and-part P (suc n) p ps all one = each-append P ps (p ∷ []) all (one, tt)
 
-and-section : (P : Section → Type 0) (s : Section) (ss : List Section) → Each P ss → P s → Each P (and_section s ss)
-and-section P s ss all one = each-append P (but_map s.map ss) (s ∷ []) (each-filter (λ (t : Section). not (t.map == s.map)) P ss all) (one, tt)
+and-section : (P : StoredSection → Type 0) (s : StoredSection) (ss : List StoredSection) → Each P ss → P s → Each P (and_section s ss)
+and-section P s ss all one = each-append P (but_map s.map ss) (s ∷ []) (each-filter (λ (t : StoredSection). not (t.map == s.map)) P ss all) (one, tt)
 
 -- the files hold what is kept with an item's bytes appended
 pub with-part-holds : (files : Files) (of : ℕ → List ℕ) (number count : ℕ) (bytes : List ℕ) (l : LayoutValue) → Holds files of l → of count ≡ bytes
@@ -121,7 +121,7 @@ with-section-holds files of map count bytes l h is =
     record {
       older = on.older;
       newer = on.newer;
-      sections = and-section (λ (s : Section). IsHeld (with_file l.side (files l.side ++ bytes) files) of s.stored)
+      sections = and-section (λ (s : StoredSection). IsHeld (with_file l.side (files l.side ++ bytes) files) of s.stored)
           (record { map = map; stored = next_stored count (length bytes) l }) l.sections on.sections (next-held files of count l bytes h.end is);
       end = long-by files l.side bytes l.end h.end;
     }
@@ -169,7 +169,7 @@ gone-holds files of l h =
     record {
       older = shown-all P first l.older h.older;
       newer = newer-all P first (shown_from first l.older) l.newer h.newer;
-      sections = each-filter (λ (s : Section). nat_le (first_map l.window) s.map) (λ (s : Section). IsHeld files of s.stored) l.sections h.sections;
+      sections = each-filter (λ (s : StoredSection). nat_le (first_map l.window) s.map) (λ (s : StoredSection). IsHeld files of s.stored) l.sections h.sections;
       end = h.end;
     }
 
@@ -187,7 +187,7 @@ gone-tidy l h =
     record {
       older_within = shown-all (λ (p : KeptPart). IsWithin (other l.side) l.end_before p.stored) first l.older h.older_within;
       newer_within = newer-all (λ (p : KeptPart). IsWithin l.side l.end p.stored) first (shown_from first l.older) l.newer h.newer_within;
-      sections_within = each-filter (λ (s : Section). nat_le (first_map l.window) s.map) (λ (s : Section). IsWithin l.side l.end s.stored) l.sections h.sections_within;
+      sections_within = each-filter (λ (s : StoredSection). nat_le (first_map l.window) s.map) (λ (s : StoredSection). IsWithin l.side l.end s.stored) l.sections h.sections_within;
     }
 
 -- ---- the other side
@@ -196,7 +196,7 @@ apart : (side : Side) (files : Files) (file : List ℕ) → with_file (other sid
 apart A files file = refl
 apart B files file = refl
 
-moved : (files : Files) (of : ℕ → List ℕ) (side : Side) (end : ℕ) (file : List ℕ) (s : Stored) → IsWithin side end s → IsHeld files of s
+moved : (files : Files) (of : ℕ → List ℕ) (side : Side) (end : ℕ) (file : List ℕ) (s : StoredItem) → IsWithin side end s → IsHeld files of s
     → IsHeld (with_file (other side) file files) of s
 moved files of side end file s inside h = record {
   at = subst (λ f. IsAt f s.place.offset (of s.count)) (sym (ap (with_file (other side) file files) inside.on ∙ apart side files file ∙ sym (ap files inside.on))) h.at;
@@ -208,9 +208,9 @@ all-moved : (files : Files) (of : ℕ → List ℕ) (side : Side) (end : ℕ) (f
 all-moved files of side end file [] inside all = all
 all-moved files of side end file (p ∷ ps) inside all = (moved files of side end file p.stored inside.0 all.0, all-moved files of side end file ps inside.1 all.1)
 
-placed-holds : (files : Files) (of : ℕ → List ℕ) (side : Side) (text before : List ℕ) (offset : ℕ) (ss : List Section)
-    → text ≡ before ++ sections_text of ss → length before ≡ offset → Each (λ (s : Section). IsHeld files of s.stored) ss
-    → Each (λ (s : Section). IsHeld (with_file side text files) of s.stored) (placed side offset ss)
+placed-holds : (files : Files) (of : ℕ → List ℕ) (side : Side) (text before : List ℕ) (offset : ℕ) (ss : List StoredSection)
+    → text ≡ before ++ sections_text of ss → length before ≡ offset → Each (λ (s : StoredSection). IsHeld files of s.stored) ss
+    → Each (λ (s : StoredSection). IsHeld (with_file side text files) of s.stored) (placed side offset ss)
 placed-holds files of side text before offset [] is e all = tt
 placed-holds files of side text before offset (s ∷ ss) is e all =
     let bytes = of s.stored.count in
@@ -222,7 +222,7 @@ placed-holds files of side text before offset (s ∷ ss) is e all =
           (let n : length (before ++ bytes) ≡ length before + length bytes = length-append before bytes in let size = held.length in omega (arith, n, e, size)) all.1,
     )
 
-text-size : (files : Files) (of : ℕ → List ℕ) (ss : List Section) → Each (λ (s : Section). IsHeld files of s.stored) ss → length (sections_text of ss) ≡ sections_size ss
+text-size : (files : Files) (of : ℕ → List ℕ) (ss : List StoredSection) → Each (λ (s : StoredSection). IsHeld files of s.stored) ss → length (sections_text of ss) ≡ sections_size ss
 text-size files of [] all = refl
 text-size files of (s ∷ ss) all =
     let held = all.0 in
@@ -243,7 +243,7 @@ turned-holds files of l none tidy h =
       end = ap length (at-here side files file) ∙ text-size files of l.sections h.sections;
     }
 
-placed-within : (side : Side) (end offset : ℕ) (ss : List Section) → offset + sections_size ss ≤ end → Each (λ (s : Section). IsWithin side end s.stored) (placed side offset ss)
+placed-within : (side : Side) (end offset : ℕ) (ss : List StoredSection) → offset + sections_size ss ≤ end → Each (λ (s : StoredSection). IsWithin side end s.stored) (placed side offset ss)
 placed-within side end offset [] h = tt
 placed-within side end offset (s ∷ ss) h =
     (record { on = refl; within = omega (arith, h) }, placed-within side end (offset + s.stored.place.length) ss (omega (arith, h)))
@@ -262,14 +262,14 @@ turned-tidy l none tidy = record {
 
 -- ---- more bytes on the current side
 
-within-more : (side : Side) (end more : ℕ) (s : Stored) → IsWithin side end s → IsWithin side (end + more) s
+within-more : (side : Side) (end more : ℕ) (s : StoredItem) → IsWithin side end s → IsWithin side (end + more) s
 within-more side end more s h = record { on = h.on; within = let w = h.within in omega (arith, w) }
 
 parts-more : (side : Side) (end more : ℕ) (ps : List KeptPart) → Each (λ (p : KeptPart). IsWithin side end p.stored) ps → Each (λ (p : KeptPart). IsWithin side (end + more) p.stored) ps
 parts-more side end more [] all = all
 parts-more side end more (p ∷ ps) all = (within-more side end more p.stored all.0, parts-more side end more ps all.1)
 
-sections-more : (side : Side) (end more : ℕ) (ss : List Section) → Each (λ (s : Section). IsWithin side end s.stored) ss → Each (λ (s : Section). IsWithin side (end + more) s.stored) ss
+sections-more : (side : Side) (end more : ℕ) (ss : List StoredSection) → Each (λ (s : StoredSection). IsWithin side end s.stored) ss → Each (λ (s : StoredSection). IsWithin side (end + more) s.stored) ss
 sections-more side end more [] all = all
 sections-more side end more (s ∷ ss) all = (within-more side end more s.stored all.0, sections-more side end more ss all.1)
 
@@ -287,14 +287,14 @@ pub section-tidy : (map count size : ℕ) (l : LayoutValue) → IsTidy l.side l.
 section-tidy map count size l h = record {
   older_within = h.older_within;
   newer_within = parts-more l.side l.end size l.newer h.newer_within;
-  sections_within = and-section (λ (s : Section). IsWithin l.side (l.end + size) s.stored) (record { map = map; stored = next_stored count size l })
+  sections_within = and-section (λ (s : StoredSection). IsWithin l.side (l.end + size) s.stored) (record { map = map; stored = next_stored count size l })
       l.sections (sections-more l.side l.end size l.sections h.sections_within) (record { on = refl; within = omega arith });
 }
 
-pub fewer-tidy : (map : ℕ) (side : Side) (end end_before : ℕ) (older newer : List KeptPart) (ss : List Section) → IsTidy side end end_before older newer ss
+pub fewer-tidy : (map : ℕ) (side : Side) (end end_before : ℕ) (older newer : List KeptPart) (ss : List StoredSection) → IsTidy side end end_before older newer ss
     → IsTidy side end end_before older newer (but_map map ss)
 fewer-tidy map side end end_before older newer ss h = record {
   older_within = h.older_within;
   newer_within = h.newer_within;
-  sections_within = each-filter (λ (s : Section). not (s.map == map)) (λ (s : Section). IsWithin side end s.stored) ss h.sections_within;
+  sections_within = each-filter (λ (s : StoredSection). not (s.map == map)) (λ (s : StoredSection). IsWithin side end s.stored) ss h.sections_within;
 }

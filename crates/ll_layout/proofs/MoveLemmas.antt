@@ -5,7 +5,7 @@ use Rattle.ll_layout.specs.Held.{sections_size}
 use Rattle.ll_layout.specs.Moves.{placed, shown_from}
 use Rattle.ll_layout.specs.declared.side.Side.{Side}
 use Rattle.ll_layout.specs.declared.stored.KeptPart.{KeptPart}
-use Rattle.ll_layout.specs.declared.stored.Section.{Section}
+use Rattle.ll_layout.specs.declared.stored.StoredSection.{StoredSection}
 
 at-least : (first n : ℕ) → first ≤ n → nat_le first n ≡ true
 at-least first n l = grind (arith, nat_tests)
@@ -30,19 +30,19 @@ front-goes first [] d some is l = absurd (omega (arith, some))
 front-goes first (p ∷ ps) d some is l = let near : p.number < first = subst (λ (q : KeptPart). q.number < first) is l in sym (shown-goes first p ps near)
 
 -- one more section
-pub placed-snoc : (side : Side) (offset : ℕ) (ss : List Section) (s : Section)
+pub placed-snoc : (side : Side) (offset : ℕ) (ss : List StoredSection) (s : StoredSection)
     → placed side offset (ss ++ s ∷ []) ≡ placed side offset ss ++ placed side (offset + sections_size ss) (s ∷ [])
 placed-snoc side offset [] s = ap (λ n. placed side n (s ∷ [])) (omega arith)
 placed-snoc side offset (t ∷ ss) s =
     ap (λ more. placed side offset (t ∷ []) ++ more) (placed-snoc side (offset + t.stored.place.length) ss s)
     ∙ ap (λ at. placed side offset (t ∷ ss) ++ placed side at (s ∷ [])) (omega arith)
 
-pub size-snoc : (ss : List Section) (s : Section) → sections_size (ss ++ s ∷ []) ≡ sections_size ss + s.stored.place.length
+pub size-snoc : (ss : List StoredSection) (s : StoredSection) → sections_size (ss ++ s ∷ []) ≡ sections_size ss + s.stored.place.length
 size-snoc [] s = omega arith
 size-snoc (t ∷ ss) s = let e = size-snoc ss s in omega (arith, e)
 
 -- a section that is placed where those before it end
-pub placed-end : (side : Side) (ss : List Section) (s : Section) (end : ℕ) → end ≡ sections_size ss
+pub placed-end : (side : Side) (ss : List StoredSection) (s : StoredSection) (end : ℕ) → end ≡ sections_size ss
     → placed side 0 ss ++ placed side end (s ∷ []) ≡ placed side 0 (ss ++ s ∷ [])
 placed-end side ss s end e = ap (λ at. placed side 0 ss ++ placed side at (s ∷ [])) (omega (arith, e)) ∙ sym (placed-snoc side 0 ss s)
 

@@ -3,8 +3,8 @@ use Rattle.std.specs.Prelude.{◌≡◌, ◌≤◌, ◌+◌, ⊤, ℕ, List, [],
 use Rattle.ll_layout.specs.declared.side.Side.{Side}
 use Rattle.ll_layout.specs.declared.side.Side.TheVariants.{A, B}
 use Rattle.ll_layout.specs.declared.stored.KeptPart.{KeptPart}
-use Rattle.ll_layout.specs.declared.stored.Section.{Section}
-use Rattle.ll_layout.specs.declared.stored.Stored.{Stored}
+use Rattle.ll_layout.specs.declared.stored.StoredSection.{StoredSection}
+use Rattle.ll_layout.specs.declared.stored.StoredItem.{StoredItem}
 use Rattle.ll_settings.specs.Settings.{Configuration}
 use Rattle.ll_window.specs.Compact.{Compact, compact}
 
@@ -26,7 +26,7 @@ pub record LayoutValue : Type 0 where
   pub end_before : ℕ
   pub older : List KeptPart
   pub newer : List KeptPart
-  pub sections : List Section
+  pub sections : List StoredSection
 
 -- what is kept of a rendition without items
 abbrev pub begun : Configuration → LayoutValue
@@ -51,11 +51,11 @@ abbrev pub size : LayoutValue → Side → ℕ
 size l side = size_by l.side side l
 
 -- all bytes that are kept
-abbrev pub stored : LayoutValue → List Stored
-stored l = map (λ (p : KeptPart). p.stored) l.older ++ map (λ (p : KeptPart). p.stored) l.newer ++ map (λ (s : Section). s.stored) l.sections
+abbrev pub stored : LayoutValue → List StoredItem
+stored l = map (λ (p : KeptPart). p.stored) l.older ++ map (λ (p : KeptPart). p.stored) l.newer ++ map (λ (s : StoredSection). s.stored) l.sections
 
 -- the bytes stand in the first `end` bytes of `side`
-pub record IsWithin (side : Side) (end : ℕ) (s : Stored) : Type 0 where
+pub record IsWithin (side : Side) (end : ℕ) (s : StoredItem) : Type 0 where
   pub on : s.place.side ≡ side
   pub within : s.place.offset + s.place.length ≤ end
 
@@ -67,7 +67,7 @@ pub record IsAt (file : List ℕ) (offset : ℕ) (bytes : List ℕ) : Type 0 whe
   pub offset_is : length before ≡ offset
 
 -- the files have the item's bytes, those that `of` gives for its number
-pub record IsHeld (files : Side → List ℕ) (of : ℕ → List ℕ) (s : Stored) : Type 0 where
+pub record IsHeld (files : Side → List ℕ) (of : ℕ → List ℕ) (s : StoredItem) : Type 0 where
   pub at : IsAt (files s.place.side) s.place.offset (of s.count)
   pub length : s.place.length ≡ length (of s.count)
 
@@ -75,7 +75,7 @@ pub record IsHeld (files : Side → List ℕ) (of : ℕ → List ℕ) (s : Store
 pub record Holds (files : Side → List ℕ) (of : ℕ → List ℕ) (l : LayoutValue) : Type 0 where
   pub older : Each (λ (p : KeptPart). IsHeld files of p.stored) l.older
   pub newer : Each (λ (p : KeptPart). IsHeld files of p.stored) l.newer
-  pub sections : Each (λ (s : Section). IsHeld files of s.stored) l.sections
+  pub sections : Each (λ (s : StoredSection). IsHeld files of s.stored) l.sections
   pub end : length (files l.side) ≡ l.end
 
 abbrev pub file_by : Side → Side → List ℕ → List ℕ → List ℕ
@@ -89,10 +89,10 @@ abbrev pub with_file : Side → List ℕ → (Side → List ℕ) → Side → Li
 with_file side file files at = file_by side at file (files at)
 
 -- the bytes of sections, one after another
-abbrev pub sections_text : (ℕ → List ℕ) → List Section → List ℕ
-sections_text of sections = flat_map (λ (s : Section). of s.stored.count) sections
+abbrev pub sections_text : (ℕ → List ℕ) → List StoredSection → List ℕ
+sections_text of sections = flat_map (λ (s : StoredSection). of s.stored.count) sections
 
 -- how many bytes sections have
-abbrev pub sections_size : List Section → ℕ
+abbrev pub sections_size : List StoredSection → ℕ
 sections_size [] = 0
 sections_size (s ∷ more) = s.stored.place.length + sections_size more

@@ -6,16 +6,16 @@ use Rattle.ll_item.specs.declared.item.Item.TheVariants as item
 use Rattle.ll_layout.specs.Held.{Each, IsWithin, LayoutValue, other, sections_size}
 use Rattle.ll_layout.specs.declared.side.Side.{Side}
 use Rattle.ll_layout.specs.declared.stored.KeptPart.{KeptPart}
-use Rattle.ll_layout.specs.declared.stored.Place.{Place}
-use Rattle.ll_layout.specs.declared.stored.Section.{Section}
-use Rattle.ll_layout.specs.declared.stored.Stored.{Stored}
+use Rattle.ll_layout.specs.declared.stored.Extent.{Extent}
+use Rattle.ll_layout.specs.declared.stored.StoredSection.{StoredSection}
+use Rattle.ll_layout.specs.declared.stored.StoredItem.{StoredItem}
 use Rattle.ll_window.specs.Compact.{Compact, first_map, map_now}
 
 abbrev pub has_bytes : Item → Bool
 has_bytes i = not (length (media_of i) == 0)
 
 -- the `size` bytes of the item of the number `count`, which come next
-abbrev pub next_stored : ℕ → ℕ → LayoutValue → Stored
+abbrev pub next_stored : ℕ → ℕ → LayoutValue → StoredItem
 next_stored count size l = record { count = count; place = record { side = l.side; offset = l.end; length = size } }
 
 -- ---- parts
@@ -43,11 +43,11 @@ with_part number count size l = record l {
 -- ---- sections
 
 -- the sections of other map numbers
-abbrev pub but_map : ℕ → List Section → List Section
-but_map map sections = filter (λ (s : Section). not (s.map == map)) sections
+abbrev pub but_map : ℕ → List StoredSection → List StoredSection
+but_map map sections = filter (λ (s : StoredSection). not (s.map == map)) sections
 
 -- one more section, which replaces an earlier one with its map number
-abbrev pub and_section : Section → List Section → List Section
+abbrev pub and_section : StoredSection → List StoredSection → List StoredSection
 and_section section sections = but_map section.map sections ++ section ∷ []
 
 -- with a section of `size` bytes, the item of the number `count`
@@ -58,11 +58,11 @@ with_section map count size l = record l {
 }
 
 -- the sections in force at a segment that a full playlist shows, or with the map number of one announced now
-abbrev pub kept_sections : Compact → List Section → List Section
-kept_sections k sections = filter (λ (s : Section). nat_le (first_map k) s.map) sections
+abbrev pub kept_sections : Compact → List StoredSection → List StoredSection
+kept_sections k sections = filter (λ (s : StoredSection). nat_le (first_map k) s.map) sections
 
 -- sections with their bytes one after another from `offset` on
-abbrev pub placed : Side → ℕ → List Section → List Section
+abbrev pub placed : Side → ℕ → List StoredSection → List StoredSection
 placed side offset [] = []
 placed side offset (s ∷ more) =
     record s { stored = record { count = s.stored.count; place = record { side = side; offset = offset; length = s.stored.place.length } } } ∷ placed side (offset + s.stored.place.length) more
@@ -108,7 +108,7 @@ now_on side l = record l {
 }
 
 -- all bytes that are kept stand within the two files, those of sections on the current side
-pub record IsTidy (side : Side) (end end_before : ℕ) (older newer : List KeptPart) (sections : List Section) : Type 0 where
+pub record IsTidy (side : Side) (end end_before : ℕ) (older newer : List KeptPart) (sections : List StoredSection) : Type 0 where
   pub older_within : Each (λ (p : KeptPart). IsWithin (other side) end_before p.stored) older
   pub newer_within : Each (λ (p : KeptPart). IsWithin side end p.stored) newer
-  pub sections_within : Each (λ (s : Section). IsWithin side end s.stored) sections
+  pub sections_within : Each (λ (s : StoredSection). IsWithin side end s.stored) sections

@@ -7,7 +7,7 @@ ghost use Rattle.ll_layout.specs.Held as spec;
 ghost use Rattle.ll_layout.specs.Held.{Each, Holds, IsWithin, sections_text, stored};
 ghost use Rattle.ll_layout.specs.Moves.{added, has_bytes, next_stored, now_on, with_part, with_section, without_gone};
 ghost use Rattle.ll_layout.specs.declared.side.Side.{Side as SideValue};
-ghost use Rattle.ll_layout.specs.declared.stored.Section.{Section as SectionValue};
+ghost use Rattle.ll_layout.specs.declared.stored.StoredSection.{StoredSection as SectionValue};
 ghost use Rattle.ll_window.specs.Compact.{compact, map_now};
 ghost use Rattle.ll_window.specs.Refusal.{refusal};
 
@@ -18,7 +18,7 @@ use crate::moves::{
     push_sections, set,
 };
 use crate::side::Side;
-use crate::stored::{KeptPart, Place, Section, Stored};
+use crate::stored::{KeptPart, Extent, StoredSection, StoredItem};
 use ll_item::{Item, PartItem};
 use ll_settings::Settings;
 use ll_window::Window;
@@ -49,7 +49,7 @@ pub struct Layout {
     /// The same on the current side.
     newer: VecDeque<KeptPart>,
     /// The sections that may still be asked for, all on the current side.
-    sections: Vec<Section>,
+    sections: Vec<StoredSection>,
 }
 
 impl Drop for Layout {
@@ -202,7 +202,7 @@ impl Layout {
     {
         let end = grown(self.end, length)?;
         let stored = self.next(count, length);
-        set(&mut self.sections, Section { map, stored })?;
+        set(&mut self.sections, StoredSection { map, stored })?;
         self.end = end;
         Ok(())
     }
@@ -210,15 +210,15 @@ impl Layout {
 
 impl Layout {
     /// Returns where the `length` bytes of the item of the number `count` are if they come next.
-    fn next(&self, count: u64, length: u64) -> Stored
+    fn next(&self, count: u64, length: u64) -> StoredItem
         ensures { result ≡ next_stored count length self.now }
     {
-        let place = Place {
+        let place = Extent {
             side: self.side,
             offset: self.end,
             length,
         };
-        Stored { count, place }
+        StoredItem { count, place }
     }
 
     /// Drops all bytes that may not be asked for any more: those of parts whose segments have left the window, and of sections in force at none.
@@ -234,7 +234,7 @@ impl Layout {
     }
 
     /// Returns the sections that may still be asked for.
-    pub fn sections(&self) -> &[Section]
+    pub fn sections(&self) -> &[StoredSection]
         ensures value { result.now ≡ self.now.sections }
         ensures within { Each (λ (s : SectionValue). IsWithin self.now.side self.now.end s.stored) result.now }
     {
@@ -242,7 +242,7 @@ impl Layout {
     }
 
     /// Appends all bytes that may still be asked for to `out`.
-    pub fn push_stored(&self, out: &mut Vec<Stored>) -> Result<(), AllocError>
+    pub fn push_stored(&self, out: &mut Vec<StoredItem>) -> Result<(), AllocError>
         ensures { OnOk result (out.new.items ≡ out.old.items ++ stored self.now) }
     {
         push_parts(&self.older, out)?;

@@ -4,13 +4,13 @@ ghost use Rattle.ll_item.specs.declared.item.Item.{Item as ItemValue};
 ghost use Rattle.ll_layout.specs.Held.{sections_size};
 ghost use Rattle.ll_layout.specs.Moves as spec;
 ghost use Rattle.ll_layout.specs.declared.stored.KeptPart.{KeptPart as KeptPartValue};
-ghost use Rattle.ll_layout.specs.declared.stored.Section.{Section as SectionValue};
+ghost use Rattle.ll_layout.specs.declared.stored.StoredSection.{StoredSection as SectionValue};
 ghost use Rattle.ll_window.specs.Compact.{compact};
 ghost use Rattle.ll_window.specs.Refusal.{refusal};
 
 use crate::fault::AddFault;
 use crate::side::Side;
-use crate::stored::{KeptPart, Place, Section, Stored};
+use crate::stored::{KeptPart, Extent, StoredSection, StoredItem};
 use ll_item::Item;
 use ll_window::{PushError, Window};
 use std::alloc::{AllocError, Global};
@@ -33,23 +33,23 @@ pub(crate) fn grown(end: u64, more: u64) -> Result<u64, AddFault>
 /// Returns `sections` with their bytes one after another at the front of `side`, and the number of these bytes.
 pub(crate) fn place_sections(
     alloc: Global,
-    sections: Vec<Section>,
+    sections: Vec<StoredSection>,
     side: Side,
-) -> Result<(Vec<Section>, u64), AddFault>
+) -> Result<(Vec<StoredSection>, u64), AddFault>
     ensures { IfOk result (λ r. (r.0.items ≡ spec.placed side 0 sections.items) × (r.1 ≡ sections_size sections.items)) }
 {
     let mut placed = Vec::with_capacity(alloc, sections.len())?;
     let mut end = 0;
     for section in sections {
-        let Section { map, stored } = section;
-        let place = Place {
+        let StoredSection { map, stored } = section;
+        let place = Extent {
             side,
             offset: end,
             ..stored.place
         };
         end = grown(end, place.length)?;
-        let stored = Stored { place, ..stored };
-        add(&mut placed, Section { map, stored })?;
+        let stored = StoredItem { place, ..stored };
+        add(&mut placed, StoredSection { map, stored })?;
     }
     Ok((placed, end))
 }
@@ -76,7 +76,7 @@ pub(crate) fn drop_before(parts: &mut VecDeque<KeptPart>, first: u64)
 }
 
 /// Adds `section`, which replaces an earlier one with its map number.
-pub(crate) fn set(sections: &mut Vec<Section>, section: Section) -> Result<(), AllocError>
+pub(crate) fn set(sections: &mut Vec<StoredSection>, section: StoredSection) -> Result<(), AllocError>
     ensures set { OnOk result (sections.new.items ≡ spec.and_section section sections.old.items) }
     ensures kept { OnErr result (sections.new.items ≡ spec.but_map section.map sections.old.items) }
 {
@@ -85,18 +85,18 @@ pub(crate) fn set(sections: &mut Vec<Section>, section: Section) -> Result<(), A
 }
 
 /// Drops the section with the map number `map`.
-fn drop_map(sections: &mut Vec<Section>, map: u64)
+fn drop_map(sections: &mut Vec<StoredSection>, map: u64)
     ensures { sections.new.items ≡ spec.but_map map sections.old.items }
 {
     sections.retain(
-        |section: &Section| -> bool
+        |section: &StoredSection| -> bool
             ensures { result ≡ not (section.now.map == map) }
         { section.map != map },
     );
 }
 
 /// Appends `section`.
-fn add(sections: &mut Vec<Section>, section: Section) -> Result<(), AllocError>
+fn add(sections: &mut Vec<StoredSection>, section: StoredSection) -> Result<(), AllocError>
     ensures added { OnOk result (sections.new.items ≡ sections.old.items ++ section ∷ []) }
     ensures kept { OnErr result (sections.new.items ≡ sections.old.items) }
 {
@@ -114,11 +114,11 @@ pub(crate) fn append(parts: &mut VecDeque<KeptPart>, part: KeptPart) -> Result<(
 }
 
 /// Drops the sections with map numbers below `least`.
-pub(crate) fn keep_from(sections: &mut Vec<Section>, least: u64)
+pub(crate) fn keep_from(sections: &mut Vec<StoredSection>, least: u64)
     ensures { sections.new.items ≡ filter (λ (s : SectionValue). nat_le least s.map) sections.old.items }
 {
     sections.retain(
-        |section: &Section| -> bool
+        |section: &StoredSection| -> bool
             ensures { result ≡ nat_le least section.now.map }
         { least <= section.map },
     );
@@ -141,7 +141,7 @@ pub(crate) fn push(window: &mut Window, item: &Item) -> Result<(), AddFault>
 /// Appends the places of the bytes of `parts` to `out`.
 pub(crate) fn push_parts(
     parts: &VecDeque<KeptPart>,
-    out: &mut Vec<Stored>,
+    out: &mut Vec<StoredItem>,
 ) -> Result<(), AllocError>
     ensures { OnOk result (out.new.items ≡ out.old.items ++ map (λ (p : KeptPartValue). p.stored) parts.now.items) }
 {
@@ -152,7 +152,7 @@ pub(crate) fn push_parts(
 }
 
 /// Appends the places of the bytes of `sections` to `out`.
-pub(crate) fn push_sections(sections: &[Section], out: &mut Vec<Stored>) -> Result<(), AllocError>
+pub(crate) fn push_sections(sections: &[StoredSection], out: &mut Vec<StoredItem>) -> Result<(), AllocError>
     ensures { OnOk result (out.new.items ≡ out.old.items ++ map (λ (s : SectionValue). s.stored) sections.now) }
 {
     for section in sections {

@@ -3,7 +3,7 @@ use crate::side::Side;
 
 /// The place of an item's bytes among those of its rendition.
 #[derive(Clone, Copy)]
-pub struct Place {
+pub struct Extent {
     /// The file.
     pub side: Side,
     /// The number of bytes before them in the file.
@@ -14,11 +14,11 @@ pub struct Place {
 
 /// The bytes of one item.
 #[derive(Clone, Copy)]
-pub struct Stored {
+pub struct StoredItem {
     /// The number of the item in its channel.
     pub count: u64,
     /// Where they are.
-    pub place: Place,
+    pub place: Extent,
 }
 
 /// A part whose bytes are kept.
@@ -27,14 +27,14 @@ pub(crate) struct KeptPart {
     /// The Media Sequence Number of its segment.
     pub(crate) number: u64,
     /// Its bytes.
-    pub(crate) stored: Stored,
+    pub(crate) stored: StoredItem,
 }
 
 /// A Media Initialization Section whose bytes are kept (EXT-X-MAP, section 4.4.4.5).
 #[derive(Clone, Copy)]
-pub struct Section {
+pub struct StoredSection {
     /// Its map number.
     pub(crate) map: u64,
     /// Its bytes.
-    pub stored: Stored,
+    pub stored: StoredItem,
 }

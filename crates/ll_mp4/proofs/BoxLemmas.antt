@@ -6,7 +6,7 @@ use borrow.Author.Tests.{ltb-false}
 use Rattle.ll_mp4.specs.Boxes.{Front, Nothing, Part, Whole, Content, Header, after, and_then, boxes, boxes_by, contents, contents_in, front_by, front_of, header_by, header_of, large_header, sized}
 use Rattle.ll_mp4.specs.Found.{found, from_inner, inner}
 use Rattle.ll_mp4.specs.Kinds.{code}
-use Rattle.ll_mp4.specs.declared.boxes.Found.{Found}
+use Rattle.ll_mp4.specs.declared.boxes.FoundBox.{FoundBox}
 use Rattle.ll_mp4.specs.declared.kind.Kind.{Kind}
 
 -- ---- a box has a byte at least
@@ -99,13 +99,13 @@ pub same_number : (n m : ℕ) → n ≡ m → (n == m) ≡ true
 same_number n m e = grind (arith, nat_tests)
 
 -- the front box is one of the type, or it is another
-pub found_one : (kind : Kind) (all rest : List ℕ) (o : Option Found) (f : Found) → contents_in kind all ≡ contents_in kind rest
+pub found_one : (kind : Kind) (all rest : List ℕ) (o : Option FoundBox) (f : FoundBox) → contents_in kind all ≡ contents_in kind rest
     → found (Ok o) ≡ inner (front_of rest) → o ≡ Some f → f.kind ≡ code kind → contents_in kind all ≡ Content f.content.now (contents_in kind f.rest.now)
 found_one kind all rest o f same told is e =
     same ∙ contents_front (code kind) rest ∙ ap (from_inner (code kind)) (sym told) ∙ ap (λ x. from_inner (code kind) (found (Ok x))) is
     ∙ rw (same_number f.kind (code kind) e) refl
 
-pub found_other : (kind : Kind) (all rest : List ℕ) (o : Option Found) (f : Found) → contents_in kind all ≡ contents_in kind rest
+pub found_other : (kind : Kind) (all rest : List ℕ) (o : Option FoundBox) (f : FoundBox) → contents_in kind all ≡ contents_in kind rest
     → found (Ok o) ≡ inner (front_of rest) → o ≡ Some f → (f.kind == code kind) ≡ false → contents_in kind all ≡ contents_in kind f.rest.now
 found_other kind all rest o f same told is e =
     same ∙ contents_front (code kind) rest ∙ ap (from_inner (code kind)) (sym told) ∙ ap (λ x. from_inner (code kind) (found (Ok x))) is ∙ rw e refl

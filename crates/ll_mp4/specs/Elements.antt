@@ -1,7 +1,7 @@
 -- What a unit is: a movie, a fragment of the governing track, or a unit beside these.
 use Rattle.std.specs.Prelude.{ℕ, Bool, true, false, List, Option, Some, None, Result, Ok, Err, ⊤}
 use Rattle.ll_mp4.specs.Boxes.{Contents, Ended, Broken, Content, at_most_one, contents_in}
-use Rattle.ll_mp4.specs.Moments.{moment_of}
+use Rattle.ll_mp4.specs.DecodeTimes.{decode_time_of}
 use Rattle.ll_mp4.specs.Movies.{MovieValue, movie_of}
 use Rattle.ll_mp4.specs.Numbers.{◌>>=◌}
 use Rattle.ll_mp4.specs.Timings.{timing_of}
@@ -32,7 +32,7 @@ movie_by known false moov = do
 -- a fragment with this timing of the governing track, or a unit beside it, with the first decode time of other tracks
 abbrev pub fragment_or : MovieValue → List ℕ → Option Timing → Element
 fragment_or movie unit (Some timing) = Fragment timing
-fragment_or movie unit None = Beside (moment_of movie unit)
+fragment_or movie unit None = Beside (decode_time_of movie unit)
 
 -- a fragment of the known movie
 abbrev pub fragment_by : Option MovieValue → List ℕ → Result Element StreamFault
@@ -56,5 +56,5 @@ element_of known unit = do
 abbrev pub IsMovie : Result Element StreamFault → Type 0
 IsMovie (Ok (Movie movie)) = ⊤
 IsMovie (Ok (Fragment timing)) = ⊥
-IsMovie (Ok (Beside moment)) = ⊥
+IsMovie (Ok (Beside decode_time)) = ⊥
 IsMovie (Err fault) = ⊥

@@ -2,7 +2,7 @@
 use Rattle.std.specs.Prelude.{ℕ, ◌==◌, List, Option, Some, None, Result, Ok, Err}
 use Rattle.std.specs.Borrow.{Bor}
 use Rattle.ll_mp4.specs.Boxes.{Contents, Ended, Broken, Content, Front, Nothing, Part, Whole, and_content, boxes, contents, contents_in}
-use Rattle.ll_mp4.specs.declared.boxes.Found.{Found}
+use Rattle.ll_mp4.specs.declared.boxes.FoundBox.{FoundBox}
 use Rattle.ll_mp4.specs.declared.fault.StreamFault.{StreamFault}
 use Rattle.ll_mp4.specs.declared.fault.StreamFault.TheVariants.{BadBox}
 use Rattle.ll_mp4.specs.declared.kind.Kind.{Kind}
@@ -19,7 +19,7 @@ inner Nothing = Ok None
 inner (Part header) = Err BadBox
 inner (Whole kind size content rest) = Ok (Some (record { kind = kind; content = content; rest = rest }))
 
-abbrev pub found : Result (Option Found) StreamFault → Result (Option Inner) StreamFault
+abbrev pub found : Result (Option FoundBox) StreamFault → Result (Option Inner) StreamFault
 found (Ok None) = Ok None
 found (Ok (Some f)) = Ok (Some (record { kind = f.kind; content = f.content.now; rest = f.rest.now }))
 found (Err fault) = Err fault

@@ -6,7 +6,7 @@ pub mod Kinds
 pub mod Laws
 pub mod Lefts
 pub mod Meaning
-pub mod Moments
+pub mod DecodeTimes
 pub mod Movies
 pub mod Numbers
 pub mod Past

@@ -10,7 +10,7 @@ use Rattle.ll_mp4.specs.declared.element.Element.TheVariants.{Movie, Fragment, B
 use Rattle.ll_mp4.specs.declared.fault.StreamFault.TheVariants.{BadBox, Cut, Missing, NoMoov, OtherTrack, Several}
 use Rattle.ll_mp4.specs.declared.kind.Kind.{Kind}
 use Rattle.ll_mp4.specs.declared.kind.Kind.TheVariants.{Moov, Trak, Tkhd, Mdia, Mdhd, Mvex, Trex, Moof, Traf, Tfhd, Trun, Mdat, Hdlr, Tfdt, Mfra}
-use Rattle.ll_mp4.specs.declared.timing.Moment.{Moment}
+use Rattle.ll_mp4.specs.declared.timing.DecodeTime.{DecodeTime}
 use Rattle.ll_mp4.specs.declared.timing.Timing.{Timing}
 
 -- ---- boxes
@@ -75,21 +75,21 @@ abbrev pub timed : Option ℕ → ℕ → Timing
 timed time ticks = record { time = time; ticks = ticks; sync = true }
 
 -- a decode time of sound
-abbrev pub moment : ℕ → Moment
-moment time = record { time = time; scale = 48000 }
+abbrev pub decode_time : ℕ → DecodeTime
+decode_time time = record { time = time; scale = 48000 }
 
 pub record WorkedElements : Type 0 where
   pub a_movie : element_of None movie ≡ Ok (Movie movie_value)
   pub another_movie : element_of (Some movie_value) movie ≡ Ok (Movie movie_value)
   pub of_both : element_of (Some movie_value) both ≡ Ok (Fragment (timed (Some 6) 3))
-  pub of_sound : element_of (Some movie_value) sound ≡ Ok (Beside (Some (moment 9)))
+  pub of_sound : element_of (Some movie_value) sound ≡ Ok (Beside (Some (decode_time 9)))
   pub no_time : element_of (Some movie_value) (fragment (traf 2 [] 3)) ≡ Ok (Fragment (timed None 3))
   pub own :
       element_of (Some movie_value) (fragment own_durations)
       ≡ Ok (Fragment (record { time = Some (2 ^ 32 + 5); ticks = 7; sync = false }))
-  pub of_later_sound : element_of (Some movie_value) (fragment (traf 1 [] 7 ++ traf 1 (short_time 8) 7)) ≡ Ok (Beside (Some (moment 8)))
+  pub of_later_sound : element_of (Some movie_value) (fragment (traf 1 [] 7 ++ traf 1 (short_time 8) 7)) ≡ Ok (Beside (Some (decode_time 8)))
   -- a decode time in a box of version 2
-  pub of_sound_later : element_of (Some movie_value) (fragment (traf 1 (box Tfdt (word (2 ^ 25) ++ word 7)) 7 ++ traf 1 (short_time 8) 7)) ≡ Ok (Beside (Some (moment 8)))
+  pub of_sound_later : element_of (Some movie_value) (fragment (traf 1 (box Tfdt (word (2 ^ 25) ++ word 7)) 7 ++ traf 1 (short_time 8) 7)) ≡ Ok (Beside (Some (decode_time 8)))
   pub untimed_sound : element_of (Some movie_value) (fragment (traf 1 [] 7)) ≡ Ok (Beside None)
   pub alone : element_of (Some movie_value) (box Mdat []) ≡ Ok (Beside None)
   pub no_movie : element_of None both ≡ Err NoMoov

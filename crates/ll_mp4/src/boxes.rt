@@ -21,7 +21,7 @@ pub struct BoxHead {
 
 /// A box in the content of another, and the bytes after it.
 #[derive(Clone, Copy)]
-pub struct Found<'a> {
+pub struct FoundBox<'a> {
     /// The four bytes of its type as a big-endian number.
     pub kind: u32,
     /// Its content.
@@ -63,7 +63,7 @@ fn sized(kind: u32, len: usize, size: u64) -> Result<Option<BoxHead>, StreamFaul
 }
 
 /// Reads the box at the front of `bytes`, which must be whole boxes; returns `None` if `bytes` are empty.
-pub fn read_front(bytes: &[u8]) -> Result<Option<Found<'_>>, StreamFault>
+pub fn read_front(bytes: &[u8]) -> Result<Option<FoundBox<'_>>, StreamFault>
     ensures told { found result ≡ inner (front_of bytes.now) }
     ensures fault { IfErr result (λ fault. fault ≡ StreamFault.BadBox) }
     ensures shorter { IfOk result (λ front. IfSome front (λ f. length f.rest.now < length bytes.now)) }
@@ -79,7 +79,7 @@ pub fn read_front(bytes: &[u8]) -> Result<Option<Found<'_>>, StreamFault>
     }
     let (front, rest) = bytes.split_at(head.size as usize);
     let (_, content) = front.split_at(head.len);
-    Ok(Some(Found {
+    Ok(Some(FoundBox {
         kind: head.kind,
         content,
         rest,

@@ -10,7 +10,7 @@ use crate::boxes::{at_most_one, next_of};
 use crate::fault::StreamFault;
 use crate::kind::Kind;
 use crate::movie::{Movie, read_movie};
-use crate::timing::{Moment, Timing, read_moment, read_timing};
+use crate::timing::{DecodeTime, Timing, read_decode_time, read_timing};
 use std::alloc::Global;
 
 /// The meaning of a unit.
@@ -21,7 +21,7 @@ pub enum Element {
     /// A fragment, by the timing of its governing track.
     Fragment(Timing),
     /// A unit without the governing track: a fragment of other tracks, with its first decode time if it has one, or samples alone.
-    Beside(Option<Moment>),
+    Beside(Option<DecodeTime>),
 }
 
 /// Reads what `unit` is; `known` is the last movie before it. Runs out of memory only for a movie that has no other fault.
@@ -69,6 +69,6 @@ fn fragment_by(known: Option<&Movie>, unit: &[u8]) -> Result<Element, StreamFaul
     };
     match read_timing(movie, unit)? {
         Some(timing) => Ok(Element::Fragment(timing)),
-        None => Ok(Element::Beside(read_moment(movie, unit))),
+        None => Ok(Element::Beside(read_decode_time(movie, unit))),
     }
 }

@@ -17,13 +17,13 @@ mod track;
 mod tracks;
 mod units;
 
-pub use boxes::{BoxHead, Found, at_most_one, next_of, only, read_front, read_head};
+pub use boxes::{BoxHead, FoundBox, at_most_one, next_of, only, read_front, read_head};
 pub use element::{Element, read_element};
 pub use fault::StreamFault;
 pub use kind::Kind;
 pub use laws::{splitter_law, worked_stream};
 pub use movie::{Movie, read_movie};
 pub use splitter::Splitter;
-pub use timing::{Moment, Timing, read_timing};
+pub use timing::{DecodeTime, Timing, read_timing};
 pub use track::{TimeScale, Track};
 pub use units::{SIZE_LIMIT, read_unit};

@@ -1,8 +1,8 @@
 //! Reads the times of a fragment (section 8.8.4): those of its movie's governing track, or the first decode time of any track.
 ghost use Rattle.std.specs.Prelude.{◌≡◌, ◌/◌, ◌^◌, None};
 ghost use Rattle.ll_mp4.specs.Boxes.{contents_in};
-ghost use Rattle.ll_mp4.specs.Moments.{moment_of};
-ghost use Rattle.ll_mp4.specs.Moments as moments;
+ghost use Rattle.ll_mp4.specs.DecodeTimes.{decode_time_of};
+ghost use Rattle.ll_mp4.specs.DecodeTimes as decode_times;
 ghost use Rattle.ll_mp4.specs.Timings as spec;
 ghost use Rattle.ll_mp4.specs.declared.kind.Kind.TheVariants.{Traf};
 
@@ -28,7 +28,7 @@ pub struct Timing {
 
 /// A decode time (section 8.8.12).
 #[derive(Clone, Copy)]
-pub struct Moment {
+pub struct DecodeTime {
     /// The time, in ticks.
     pub time: u64,
     /// The number of ticks in a second.
@@ -136,23 +136,23 @@ fn time_by(version: u32, tfdt: &[u8]) -> Result<u64, StreamFault>
 
 /// Reads the first decode time of any of the movie's tracks in the fragment of `unit`. Returns `None` if it has no fragment or no such time. Ignores
 /// the faults of a track's fragment.
-pub(crate) fn read_moment(movie: &Movie, unit: &[u8]) -> Option<Moment>
-    ensures { result ≡ moment_of movie.now unit.now }
+pub(crate) fn read_decode_time(movie: &Movie, unit: &[u8]) -> Option<DecodeTime>
+    ensures { result ≡ decode_time_of movie.now unit.now }
 {
     let Ok(Some(moof)) = at_most_one(Kind::Moof, unit) else {
         return None;
     };
-    first_moment(movie, moof)
+    first_decode_time(movie, moof)
 }
 
 /// Reads the first decode time in `moof`.
-fn first_moment(movie: &Movie, moof: &[u8]) -> Option<Moment>
-    ensures { result ≡ moments.first_moment movie.now (contents_in Traf moof.now) }
+fn first_decode_time(movie: &Movie, moof: &[u8]) -> Option<DecodeTime>
+    ensures { result ≡ decode_times.first_decode_time movie.now (contents_in Traf moof.now) }
 {
     let mut rest = moof;
     'tracks: while let Ok(Some((traf, after))) = next_of(Kind::Traf, rest) {
-        if let Ok(Some(moment)) = moment_in(movie, traf) {
-            return Some(moment);
+        if let Ok(Some(decode_time)) = decode_time_in(movie, traf) {
+            return Some(decode_time);
         }
         rest = after;
     }
@@ -160,21 +160,21 @@ fn first_moment(movie: &Movie, moof: &[u8]) -> Option<Moment>
 }
 
 /// Reads the decode time of a track's fragment, if it has one and its track is one of the movie's.
-fn moment_in(movie: &Movie, traf: &[u8]) -> Result<Option<Moment>, StreamFault>
-    ensures { result ≡ moments.moment_in movie.now traf.now }
+fn decode_time_in(movie: &Movie, traf: &[u8]) -> Result<Option<DecodeTime>, StreamFault>
+    ensures { result ≡ decode_times.decode_time_in movie.now traf.now }
 {
     let tfhd = only(Kind::Tfhd, traf)?;
     let id = number_at(4, tfhd)?;
     let time = read_time(traf)?;
-    Ok(moment_by(movie.scale_of(id), time))
+    Ok(decode_time_by(movie.scale_of(id), time))
 }
 
 /// Returns the decode time `time` in a track of `scale` ticks a second, if both are known.
-fn moment_by(scale: Option<u32>, time: Option<u64>) -> Option<Moment>
-    ensures { result ≡ moments.moment_by scale time }
+fn decode_time_by(scale: Option<u32>, time: Option<u64>) -> Option<DecodeTime>
+    ensures { result ≡ decode_times.decode_time_by scale time }
 {
     match (scale, time) {
-        (Some(scale), Some(time)) => Some(Moment { time, scale }),
+        (Some(scale), Some(time)) => Some(DecodeTime { time, scale }),
         _ => None,
     }
 }

@@ -1,7 +1,7 @@
 -- What is kept is that of the chains so far, one step after another.
 use Rattle.std.proofs.Common.{◌≡◌, ℕ, zero, suc, List, [], ◌∷◌, ◌++◌, Bool, true, false, cond, Option, Some, None, Result, Ok, Err, refl, ap, sym, subst, ◌∙◌, append_assoc, append-nil, length, arith, rules, OnOk, is_err, true≢false}
 use Rattle.std.specs.Str.{is_utf8}
-use Rattle.ll_attr.specs.Words.{pieces_at}
+use Rattle.ll_attr.specs.Words.{additions_at}
 use Rattle.ll_check.proofs.Begun.{Another, GoesOn, Next, Onward, begun_lines}
 use Rattle.ll_check.proofs.Places.{first-at}
 use Rattle.ll_check.proofs.StepLemmas.{GoesTo, moved, over-at}
@@ -18,14 +18,14 @@ use Rattle.ll_entry.specs.declared.version.Version.{Version}
 use Rattle.ll_settings.specs.Settings.{Configuration, settings_in}
 use Rattle.ll_settings.specs.declared.settings.SettingsFault.{SettingsFault}
 use Rattle.ll_multivariant.specs.Keeping.{AddsLine, AddsTold, KeptValue, kept_of}
-use Rattle.ll_multivariant.specs.Pieces.{pieces_in, pieces_of}
+use Rattle.ll_multivariant.specs.Additions.{additions_in, additions_of}
 use Rattle.ll_verdict.specs.Events.{Event}
 
 -- ---- one event more
 
-pieces-snoc : (es : List Event) (e : Event) → pieces_of (es ++ e ∷ []) ≡ pieces_of es ++ pieces_in e
-pieces-snoc [] e = append-nil (pieces_in e)
-pieces-snoc (x ∷ es) e = ap (λ l. pieces_in x ++ l) (pieces-snoc es e) ∙ sym (append_assoc (pieces_in x) (pieces_of es) (pieces_in e))
+additions-snoc : (es : List Event) (e : Event) → additions_of (es ++ e ∷ []) ≡ additions_of es ++ additions_in e
+additions-snoc [] e = append-nil (additions_in e)
+additions-snoc (x ∷ es) e = ap (λ l. additions_in x ++ l) (additions-snoc es e) ∙ sym (append_assoc (additions_in x) (additions_of es) (additions_in e))
 
 joined-on : (ch now : Chain) (entry : Recorded) (o : Option CheckKind) → joined_by o ch (event_of entry) ≡ Ok now
     → now ≡ record ch { events = ch.events ++ event_of entry ∷ [] }
@@ -45,10 +45,10 @@ entry-on : (ch now : Chain) (line : List ℕ) (old new : KeptValue) → with_lin
     → AddsLine old new ch.version line ch.settings → new ≡ kept_of (Some now)
 entry-on ch now line old new h is a =
     let next = line-on ch now line a.entry (is_utf8 line) refl h a.read in
-    let kept : KeptValue → KeptValue = λ k. record { settings = k.settings; pieces = k.pieces ++ pieces_in (event_of a.entry) } in
+    let kept : KeptValue → KeptValue = λ k. record { settings = k.settings; additions = k.additions ++ additions_in (event_of a.entry) } in
     a.next
     ∙ ap kept is
-    ∙ ap (λ ps. record { settings = Some ch.settings; pieces = ps }) (sym (pieces-snoc ch.events (event_of a.entry)))
+    ∙ ap (λ ps. record { settings = Some ch.settings; additions = ps }) (sym (additions-snoc ch.events (event_of a.entry)))
     ∙ ap (λ (c : Chain). kept_of (Some c)) (sym next)
 
 -- ---- the first lines of a chunk
@@ -76,8 +76,8 @@ kept-told (Between before) (Inside ch) (told.Begun settings zero) lines rest old
     let names = (begun_lines before h.header.first settings.now h.header.place ch h.header.begun).names in
     let same : a.settings ≡ ch.settings = same_settings a.settings ch.settings (settings_in settings.now) a.read names in
     a.next
-    ∙ ap (λ c. record { settings = Some c; pieces = [] }) same
-    ∙ ap (λ es. record { settings = Some ch.settings; pieces = pieces_of es }) (no_events ch.events h.many)
+    ∙ ap (λ c. record { settings = Some c; additions = [] }) same
+    ∙ ap (λ es. record { settings = Some ch.settings; additions = additions_of es }) (no_events ch.events h.many)
 kept-told (Between before) (Inside ch) (told.Begun settings (suc at)) lines rest old new h is a =
     a ∙ is ∙ onward before ch at h.many (begun_lines before h.header.first settings.now h.header.place ch h.header.begun).next
 kept-told (Inside ch) (Inside now) (told.Entry version line entry) lines rest old new h is a =
@@ -106,21 +106,21 @@ keeps-first checker lines kept none is = record { now = Between None; at = first
 
 -- the next lines were read
 pub keeps-next : (checker new : Option ChainValue) (t : Told) (lines mid : List (List ℕ)) (rest : List ℕ) (kept more : KeptValue) → Keeps checker lines mid kept
-    → ((q : Position) → IsAt checker q → Moves new q t mid (pieces_at 10 rest)) → AddsTold kept more t → Keeps new lines (pieces_at 10 rest) more
+    → ((q : Position) → IsAt checker q → Moves new q t mid (additions_at 10 rest)) → AddsTold kept more t → Keeps new lines (additions_at 10 rest) more
 keeps-next checker new t lines mid rest kept more k on a =
     let m = on k.now k.at in
     record {
       now = m.next;
       at = m.at;
       same = k.same ∙ moved k.now m.next t mid rest m.by;
-      are = kept-told k.now m.next t mid (pieces_at 10 rest) kept more m.by k.are a;
+      are = kept-told k.now m.next t mid (additions_at 10 rest) kept more m.by k.are a;
     }
 
 pub goes-kept : (checker : Option ChainValue) (lines rest : List (List ℕ)) (kept : KeptValue) → Keeps checker lines rest kept → GoesTo checker (Between None) lines rest
 goes-kept checker lines rest kept k = record { now = k.now; at = k.at; same = k.same }
 
 -- no text is left: what is kept is that of the last chain
-pub keeps-all : (checker new : Option ChainValue) (lines : List (List ℕ)) (rest : List ℕ) (kept : KeptValue) → Keeps checker lines (pieces_at 10 rest) kept
+pub keeps-all : (checker new : Option ChainValue) (lines : List (List ℕ)) (rest : List ℕ) (kept : KeptValue) → Keeps checker lines (additions_at 10 rest) kept
     → ((q : Position) → IsAt checker q → IsOver checker new q rest)
     → (before : Option Chain) × IsAt new (Between before) × (checked_from (Between None) lines ≡ Ok before) × (kept ≡ kept_of before)
 keeps-all checker new lines rest kept k over =

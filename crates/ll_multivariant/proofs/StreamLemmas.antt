@@ -11,8 +11,8 @@ use Rattle.ll_variants.specs.Segments.{segments_of}
 use Rattle.ll_variants.specs.declared.segments.Size.{Size}
 use Rattle.ll_multivariant.specs.Naming.{◌>>=◌, found_or, section_or, some_or, stream_in, streams_after, streams_in}
 use Rattle.ll_multivariant.specs.declared.fault.MultivariantFault.{MultivariantFault}
-use Rattle.ll_multivariant.specs.declared.naming.Source.{Source}
-use Rattle.ll_variants.specs.declared.segments.Piece.{Piece}
+use Rattle.ll_multivariant.specs.declared.naming.NamedSection.{NamedSection}
+use Rattle.ll_variants.specs.declared.segments.Addition.{Addition}
 use Rattle.ll_variants.specs.declared.stream.Stream.{Stream}
 
 streams-more : (before : List Stream) (stream : Stream) (later : Result (List Stream) MultivariantFault)
@@ -21,22 +21,22 @@ streams-more before stream (Err fault) = refl
 streams-more before stream (Ok streams) = ap Ok (sym (append_assoc before (stream ∷ []) streams))
 
 -- one more
-pub streams_more : (c : Configuration) (pieces : List Piece) (number : ℕ) (before : List Stream) (s : Source) (more : List Source) (stream : Stream)
-    → stream_in c pieces (number + 1) s ≡ Ok stream
-    → streams_after before (streams_in c pieces number (s ∷ more)) ≡ streams_after (before ++ stream ∷ []) (streams_in c pieces (number + 1) more)
-streams_more c pieces number before s more stream e =
-    ap (λ (r : Result Stream MultivariantFault). streams_after before (r >>= (λ t. streams_in c pieces (number + 1) more >>= (λ ts. Ok (t ∷ ts))))) e
-    ∙ streams-more before stream (streams_in c pieces (number + 1) more)
+pub streams_more : (c : Configuration) (additions : List Addition) (number : ℕ) (before : List Stream) (s : NamedSection) (more : List NamedSection) (stream : Stream)
+    → stream_in c additions (number + 1) s ≡ Ok stream
+    → streams_after before (streams_in c additions number (s ∷ more)) ≡ streams_after (before ++ stream ∷ []) (streams_in c additions (number + 1) more)
+streams_more c additions number before s more stream e =
+    ap (λ (r : Result Stream MultivariantFault). streams_after before (r >>= (λ t. streams_in c additions (number + 1) more >>= (λ ts. Ok (t ∷ ts))))) e
+    ∙ streams-more before stream (streams_in c additions (number + 1) more)
 
 -- a fault
-pub streams_torn : (c : Configuration) (pieces : List Piece) (number : ℕ) (before : List Stream) (s : Source) (more : List Source) (fault : MultivariantFault)
-    → stream_in c pieces (number + 1) s ≡ Err fault → streams_after before (streams_in c pieces number (s ∷ more)) ≡ Err fault
-streams_torn c pieces number before s more fault e =
-    ap (λ (r : Result Stream MultivariantFault). streams_after before (r >>= (λ t. streams_in c pieces (number + 1) more >>= (λ ts. Ok (t ∷ ts))))) e
+pub streams_torn : (c : Configuration) (additions : List Addition) (number : ℕ) (before : List Stream) (s : NamedSection) (more : List NamedSection) (fault : MultivariantFault)
+    → stream_in c additions (number + 1) s ≡ Err fault → streams_after before (streams_in c additions number (s ∷ more)) ≡ Err fault
+streams_torn c additions number before s more fault e =
+    ap (λ (r : Result Stream MultivariantFault). streams_after before (r >>= (λ t. streams_in c additions (number + 1) more >>= (λ ts. Ok (t ∷ ts))))) e
 
 -- no more
-pub streams_done : (c : Configuration) (pieces : List Piece) (number : ℕ) (before : List Stream) → streams_after before (streams_in c pieces number []) ≡ Ok before
-streams_done c pieces number before = ap Ok (append-nil before)
+pub streams_done : (c : Configuration) (additions : List Addition) (number : ℕ) (before : List Stream) → streams_after before (streams_in c additions number []) ≡ Ok before
+streams_done c additions number before = ap Ok (append-nil before)
 
 -- none before
 pub streams_all : (r : Result (List Stream) MultivariantFault) → streams_after [] r ≡ r
@@ -61,9 +61,9 @@ after-rendition : (o : Option ℕ) (r : Result SectionValue StreamFault) (xs : �
 after-rendition None r xs number f with_all h = cc
 after-rendition (Some rendition) r xs number f with_all h = after-section r (xs rendition) number f with_all h
 
-stream-named : (c : Configuration) (pieces : List Piece) (number : ℕ) (s : Source) (f : CheckFault) → stream_in c pieces number s ≡ Err (Wrong f) → ⊥
-stream-named c pieces number s f h =
-    after-rendition (rendition_named c s.name) (section_of s.init.items) (λ rendition. segments_of rendition pieces) number f
+stream-named : (c : Configuration) (additions : List Addition) (number : ℕ) (s : NamedSection) (f : CheckFault) → stream_in c additions number s ≡ Err (Wrong f) → ⊥
+stream-named c additions number s f h =
+    after-rendition (rendition_named c s.name) (section_of s.init.items) (λ rendition. segments_of rendition additions) number f
     (λ section segments. record { name = s.name; section = section; rates = rates c.target segments }) h
 
 after-one : (r : Result (List Stream) MultivariantFault) (stream : Stream) (f : CheckFault) → (r ≡ Err (Wrong f) → ⊥)
@@ -77,18 +77,18 @@ after-both (Ok stream) later f a b h = after-one later stream f b h
 after-both (Err fault) later f a b h =
     let is : fault ≡ Wrong f = cc in a (ap Err is)
 
-streams-named : (c : Configuration) (pieces : List Piece) (before : ℕ) (sources : List Source) (f : CheckFault) → streams_in c pieces before sources ≡ Err (Wrong f) → ⊥
-streams-named c pieces before [] f h = cc
-streams-named c pieces before (s ∷ more) f h =
-    after-both (stream_in c pieces (before + 1) s) (streams_in c pieces (before + 1) more) f (stream-named c pieces (before + 1) s f)
-    (streams-named c pieces (before + 1) more f) h
+streams-named : (c : Configuration) (additions : List Addition) (before : ℕ) (sources : List NamedSection) (f : CheckFault) → streams_in c additions before sources ≡ Err (Wrong f) → ⊥
+streams-named c additions before [] f h = cc
+streams-named c additions before (s ∷ more) f h =
+    after-both (stream_in c additions (before + 1) s) (streams_in c additions (before + 1) more) f (stream-named c additions (before + 1) s f)
+    (streams-named c additions (before + 1) more f) h
 
 pub beside_other : (fault : MultivariantFault) (f : CheckFault) → IsBeside fault → fault ≡ Wrong f → ⊥
 beside_other fault f (inl large) is = cc
 beside_other fault f (inr memory) is = cc
 
-pub named_other : (c : Configuration) (pieces : List Piece) (sources : List Source) (fault : MultivariantFault) (f : CheckFault)
-    → (streams_after [] (streams_in c pieces 0 sources) ≡ Err fault) ⊎ IsBeside fault → fault ≡ Wrong f → ⊥
-named_other c pieces sources fault f (inl e) is =
-    streams-named c pieces 0 sources f (sym (streams_all (streams_in c pieces 0 sources)) ∙ e ∙ ap Err is)
-named_other c pieces sources fault f (inr beside) is = beside_other fault f beside is
+pub named_other : (c : Configuration) (additions : List Addition) (sources : List NamedSection) (fault : MultivariantFault) (f : CheckFault)
+    → (streams_after [] (streams_in c additions 0 sources) ≡ Err fault) ⊎ IsBeside fault → fault ≡ Wrong f → ⊥
+named_other c additions sources fault f (inl e) is =
+    streams-named c additions 0 sources f (sym (streams_all (streams_in c additions 0 sources)) ∙ e ∙ ap Err is)
+named_other c additions sources fault f (inr beside) is = beside_other fault f beside is

@@ -8,35 +8,35 @@ use Rattle.ll_entry.specs.Entries.{entry_in}
 use Rattle.ll_entry.specs.declared.entry.Recorded.{Recorded}
 use Rattle.ll_entry.specs.declared.version.Version.{Version}
 use Rattle.ll_settings.specs.Settings.{Configuration, settings_in}
-use Rattle.ll_multivariant.specs.Pieces.{pieces_in, pieces_of}
-use Rattle.ll_variants.specs.declared.segments.Piece.{Piece}
+use Rattle.ll_multivariant.specs.Additions.{additions_in, additions_of}
+use Rattle.ll_variants.specs.declared.segments.Addition.{Addition}
 
--- the settings of the last chain, and the pieces of its items
+-- the settings of the last chain, and the additions of its items
 pub record KeptValue : Type 0 where
   pub settings : Option Configuration
-  pub pieces : List Piece
+  pub additions : List Addition
 
 -- it is kept of the chains so far
 abbrev pub kept_of : Option Chain → KeptValue
-kept_of None = record { settings = None; pieces = [] }
-kept_of (Some ch) = record { settings = Some ch.settings; pieces = pieces_of ch.events }
+kept_of None = record { settings = None; additions = [] }
+kept_of (Some ch) = record { settings = Some ch.settings; additions = additions_of ch.events }
 
--- a piece, if there is one
-abbrev pub piece_list : Option Piece → List Piece
-piece_list None = []
-piece_list (Some piece) = piece ∷ []
+-- an addition, if there is one
+abbrev pub addition_list : Option Addition → List Addition
+addition_list None = []
+addition_list (Some addition) = addition ∷ []
 
 -- what is kept with an entry's line that is right, in the format `version`
 pub record AddsLine (old new : KeptValue) (version : Version) (line : List ℕ) (c : Configuration) : Type 0 where
   pub entry : Recorded
   pub read : entry_in version c line ≡ Ok entry
-  pub next : new ≡ record { settings = old.settings; pieces = old.pieces ++ pieces_in (event_of entry) }
+  pub next : new ≡ record { settings = old.settings; additions = old.additions ++ additions_in (event_of entry) }
 
 -- what is kept with settings that a line spells, before any item
 pub record Begins (new : KeptValue) (line : List ℕ) : Type 0 where
   pub settings : Configuration
   pub read : settings_in line ≡ Ok settings
-  pub next : new ≡ record { settings = Some settings; pieces = [] }
+  pub next : new ≡ record { settings = Some settings; additions = [] }
 
 -- what is kept with the next lines
 abbrev pub AddsTold : KeptValue → KeptValue → Told → Type 0

@@ -2,4 +2,4 @@
 pub mod Faults
 pub mod Keeping
 pub mod Naming
-pub mod Pieces
+pub mod Additions

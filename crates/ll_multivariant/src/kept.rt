@@ -1,19 +1,19 @@
 //! What is kept of the last chain of a record while it is read: its settings, and what its items add to segments.
 ghost use Rattle.std.specs.Prelude.{◌≡◌, ◌≢◌, IfErr, IfOk, List, None, OnOk, Ok, Err, Option, Some, true, ℕ};
-ghost use Rattle.ll_attr.specs.Words.{pieces_at};
+ghost use Rattle.ll_attr.specs.Words.{additions_at};
 ghost use Rattle.ll_entry.specs.Chain.{Between, Chain, checked, checked_from};
 ghost use Rattle.ll_entry.specs.Entered.{event_of};
 ghost use Rattle.ll_entry.specs.Entries.{entry_in};
 ghost use Rattle.ll_entry.specs.declared.entry.Recorded.{Recorded};
 ghost use Rattle.ll_settings.specs.Settings.{Configuration, settings_in};
-ghost use Rattle.ll_multivariant.specs.Keeping.{AddsLine, AddsTold, kept_of, piece_list};
-ghost use Rattle.ll_multivariant.specs.Pieces.{pieces_in};
+ghost use Rattle.ll_multivariant.specs.Keeping.{AddsLine, AddsTold, kept_of, addition_list};
+ghost use Rattle.ll_multivariant.specs.Additions.{additions_in};
 
-use crate::piece::piece_of;
+use crate::addition::addition_of;
 use ll_check::{Checker, Told};
 use ll_entry::{CheckFault, CheckKind, Recorded, Version};
 use ll_settings::Settings;
-use ll_variants::Piece;
+use ll_variants::Addition;
 use std::alloc::{AllocError, Global};
 use std::marker::Model;
 
@@ -23,7 +23,7 @@ pub(crate) struct Kept {
     /// Its settings; `None` before the first chain.
     pub(crate) settings: Option<Settings>,
     /// What its items add to segments, in their order.
-    pub(crate) pieces: Vec<Piece>,
+    pub(crate) additions: Vec<Addition>,
 }
 
 impl Model for Kept {
@@ -31,7 +31,7 @@ impl Model for Kept {
 
     ghost Value = { KeptValue };
 
-    ghost view = { λ k. record { settings = k.settings; pieces = k.pieces.items } };
+    ghost view = { λ k. record { settings = k.settings; additions = k.additions.items } };
 }
 
 /// Returns what is kept of the last chain of the record `chunks`.
@@ -41,7 +41,7 @@ impl Model for Kept {
 /// The fault of the record, as [`check`](ll_check::check) has it; Memory if out of memory.
 pub(crate) fn last_chain(alloc: Global, chunks: &[u8]) -> Result<Kept, CheckFault>
     ensures right { OnOk result ((n : ℕ) × (checked chunks.now ≡ Ok n)) }
-    ensures kept { IfOk result (λ k. (ch : Chain) × (checked_from (Between None) (pieces_at 10 chunks.now) ≡ Ok (Some ch)) × (k ≡ kept_of (Some ch))) }
+    ensures kept { IfOk result (λ k. (ch : Chain) × (checked_from (Between None) (additions_at 10 chunks.now) ≡ Ok (Some ch)) × (k ≡ kept_of (Some ch))) }
     ensures wrong { IfErr result (λ f. f.kind ≢ CheckKind.Memory → checked chunks.now ≡ Err f) }
 {
     let mut checker = Checker::new(alloc);
@@ -52,12 +52,12 @@ pub(crate) fn last_chain(alloc: Global, chunks: &[u8]) -> Result<Kept, CheckFaul
 fn last_chain_by(alloc: Global, checker: &mut Checker, chunks: &[u8]) -> Result<Kept, CheckFault>
     requires { checker.old ≡ None }
     ensures right { OnOk result ((n : ℕ) × (checked chunks.now ≡ Ok n)) }
-    ensures kept { IfOk result (λ k. (ch : Chain) × (checked_from (Between None) (pieces_at 10 chunks.now) ≡ Ok (Some ch)) × (k ≡ kept_of (Some ch))) }
+    ensures kept { IfOk result (λ k. (ch : Chain) × (checked_from (Between None) (additions_at 10 chunks.now) ≡ Ok (Some ch)) × (k ≡ kept_of (Some ch))) }
     ensures wrong { IfErr result (λ f. f.kind ≢ CheckKind.Memory → checked chunks.now ≡ Err f) }
 {
     let mut kept = Kept {
         settings: None,
-        pieces: Vec::new(alloc),
+        additions: Vec::new(alloc),
     };
     let mut rest = chunks;
     'lines: while let Some((told, more)) = checker.next(rest)? {
@@ -81,7 +81,7 @@ impl Kept {
         match told {
             Told::Begun(settings, 0) => {
                 self.settings = Some(read_settings(alloc, settings)?);
-                self.pieces.clear();
+                self.additions.clear();
                 Ok(())
             }
             Told::Entry(version, line, _) => self.add_line(alloc, *version, line),
@@ -96,8 +96,8 @@ impl Kept {
         let Some(settings) = &self.settings else {
             return Ok(());
         };
-        if let Some(piece) = read_piece(alloc, version, settings, line)? {
-            self.pieces.push(piece)?;
+        if let Some(addition) = read_piece(alloc, version, settings, line)? {
+            self.additions.push(addition)?;
         }
         Ok(())
     }
@@ -119,11 +119,11 @@ fn read_piece(
     version: Version,
     settings: &Settings,
     line: &str,
-) -> Result<Option<Piece>, AllocError>
-    ensures { IfOk result (λ piece. (entry : Recorded) × (entry_in version settings.now line.now ≡ Ok entry) × (piece_list piece ≡ pieces_in (event_of entry))) }
+) -> Result<Option<Addition>, AllocError>
+    ensures { IfOk result (λ addition. (entry : Recorded) × (entry_in version settings.now line.now ≡ Ok entry) × (addition_list addition ≡ additions_in (event_of entry))) }
 {
     match Recorded::read(alloc, version, settings, line) {
-        Ok(Recorded::Publish(item)) => Ok(Some(piece_of(&item))),
+        Ok(Recorded::Publish(item)) => Ok(Some(addition_of(&item))),
         Ok(_) => Ok(None),
         Err(_) => Err(AllocError),
     }

@@ -5,9 +5,9 @@
 mod fault;
 mod kept;
 mod naming;
-mod piece;
+mod addition;
 mod written;
 
 pub use fault::MultivariantFault;
-pub use naming::Source;
+pub use naming::NamedSection;
 pub use written::multivariant;

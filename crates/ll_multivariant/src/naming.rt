@@ -9,35 +9,35 @@ use ll_attr::Text;
 use ll_codecs::{Section, read_section};
 use ll_mp4::StreamFault;
 use ll_settings::Settings;
-use ll_variants::{Piece, Stream, finished_segments, rates_of};
+use ll_variants::{Addition, Stream, finished_segments, rates_of};
 use std::alloc::Global;
 
 /// A rendition that is named, and its Media Initialization Section.
 #[derive(Drop)]
-pub struct Source {
+pub struct NamedSection {
     /// The name of the rendition.
     pub name: Text,
     /// The bytes of the section.
     pub init: Vec<u8>,
 }
 
-/// Returns the renditions of `sources`, whose channel has the settings `settings` and whose items add `pieces` to segments.
+/// Returns the renditions of `sources`, whose channel has the settings `settings` and whose items add `additions` to segments.
 #[tactic(auto, using(crate::proofs::StreamLemmas::streams_more, crate::proofs::StreamLemmas::streams_done, crate::proofs::StreamLemmas::streams_torn))]
 pub(crate) fn streams_in(
     alloc: Global,
     settings: &Settings,
-    pieces: &[Piece],
-    sources: &[Source],
+    additions: &[Addition],
+    sources: &[NamedSection],
 ) -> Result<Vec<Stream>, MultivariantFault>
-    ensures { MatchResult result (λ streams. spec.streams_after [] (spec.streams_in settings.now pieces.now 0 sources.now) ≡ Ok streams.items)
-        (λ fault. (spec.streams_after [] (spec.streams_in settings.now pieces.now 0 sources.now) ≡ Err fault) ⊎ IsBeside fault) }
+    ensures { MatchResult result (λ streams. spec.streams_after [] (spec.streams_in settings.now additions.now 0 sources.now) ≡ Ok streams.items)
+        (λ fault. (spec.streams_after [] (spec.streams_in settings.now additions.now 0 sources.now) ≡ Err fault) ⊎ IsBeside fault) }
 {
     let mut streams = Vec::new(alloc);
     let mut number = 0_u64;
     let mut left = sources;
     'sources: while let Some((source, more)) = left.split_first() {
         number += 1;
-        let stream = stream_in(alloc, settings, pieces, number, source)?;
+        let stream = stream_in(alloc, settings, additions, number, source)?;
         if streams.push(stream).is_err() {
             return Err(MultivariantFault::Memory);
         }
@@ -50,18 +50,18 @@ pub(crate) fn streams_in(
 fn stream_in(
     alloc: Global,
     settings: &Settings,
-    pieces: &[Piece],
+    additions: &[Addition],
     number: u64,
-    source: &Source,
+    source: &NamedSection,
 ) -> Result<Stream, MultivariantFault>
-    ensures { MatchResult result (λ stream. spec.stream_in settings.now pieces.now number source.now ≡ Ok stream)
-        (λ fault. (spec.stream_in settings.now pieces.now number source.now ≡ Err fault) ⊎ IsBeside fault) }
+    ensures { MatchResult result (λ stream. spec.stream_in settings.now additions.now number source.now ≡ Ok stream)
+        (λ fault. (spec.stream_in settings.now additions.now number source.now ≡ Err fault) ⊎ IsBeside fault) }
 {
     let Some(rendition) = settings.rendition(source.name.as_str()) else {
         return Err(MultivariantFault::NoRendition(number));
     };
     let section = section_or(alloc, number, &source.init)?;
-    let segments = match finished_segments(alloc, rendition, pieces) {
+    let segments = match finished_segments(alloc, rendition, additions) {
         Ok(segments) => segments,
         Err(fault) => return Err(variant_fault(fault)),
     };

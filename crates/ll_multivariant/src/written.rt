@@ -1,6 +1,6 @@
 //! The Multivariant Playlist of a channel.
 ghost use Rattle.std.specs.Prelude.{◌≡◌, ◌≢◌, IfOk, IsErrOf, None, Ok, Err, Some, string_bytes};
-ghost use Rattle.ll_attr.specs.Words.{pieces_at};
+ghost use Rattle.ll_attr.specs.Words.{additions_at};
 ghost use Rattle.ll_entry.specs.Chain.{Between, Chain, checked, checked_from};
 ghost use Rattle.ll_entry.specs.declared.fault.CheckFault.{CheckFault};
 ghost use Rattle.ll_multivariant.specs.Keeping.{kept_of};
@@ -8,7 +8,7 @@ ghost use Rattle.ll_multivariant.specs.Naming as spec;
 
 use crate::fault::{MultivariantFault, variant_fault};
 use crate::kept::{Kept, last_chain};
-use crate::naming::{Source, streams_in};
+use crate::naming::{NamedSection, streams_in};
 use ll_entry::CheckKind;
 use ll_variants::playlist_text;
 use std::alloc::Global;
@@ -18,9 +18,9 @@ use std::alloc::Global;
 pub fn multivariant(
     alloc: Global,
     chunks: &[u8],
-    sources: &[Source],
+    sources: &[NamedSection],
 ) -> Result<String, MultivariantFault>
-    ensures text { IfOk result (λ t. (ch : Chain) × (checked_from (Between None) (pieces_at 10 chunks.now) ≡ Ok (Some ch))
+    ensures text { IfOk result (λ t. (ch : Chain) × (checked_from (Between None) (additions_at 10 chunks.now) ≡ Ok (Some ch))
         × (spec.multivariant ch sources.now ≡ Ok (string_bytes t))) }
     ensures wrong { (f : CheckFault) → IsErrOf result (MultivariantFault.Wrong f) → f.kind ≢ CheckKind.Memory → checked chunks.now ≡ Err f }
 {
@@ -35,7 +35,7 @@ pub fn multivariant(
 fn kept_playlist(
     alloc: Global,
     kept: &Kept,
-    sources: &[Source],
+    sources: &[NamedSection],
 ) -> Result<String, MultivariantFault>
     ensures text { (ch : Chain) → kept.now ≡ kept_of (Some ch) → IfOk result (λ t. spec.multivariant ch sources.now ≡ Ok (string_bytes t)) }
     ensures named { (f : CheckFault) → IsErrOf result (MultivariantFault.Wrong f) → ⊥ }
@@ -43,7 +43,7 @@ fn kept_playlist(
     let Some(settings) = &kept.settings else {
         return Err(MultivariantFault::Memory);
     };
-    let streams = match streams_in(alloc, settings, &kept.pieces, sources) {
+    let streams = match streams_in(alloc, settings, &kept.additions, sources) {
         Ok(streams) => streams,
         Err(fault) => return Err(fault),
     };

@@ -6,7 +6,7 @@ mod noted_gate;
 mod notes;
 mod remote;
 
-pub use note::Ending;
+pub use note::EndReason;
 pub use noted_gate::NotedGate;
 pub use notes::{Notes, time_of_day};
 pub use remote::{Addressed, Remote};

@@ -22,13 +22,13 @@ pub(crate) enum Noted {
         /// The number of bytes of these items.
         bytes: u64,
         /// Why it has ended.
-        ending: Ending,
+        ending: EndReason,
     },
 }
 
 /// Why a connection has ended.
 #[derive(Clone, Copy)]
-pub enum Ending {
+pub enum EndReason {
     /// The publisher has ended it.
     Closed,
     /// A read failed.
@@ -43,16 +43,16 @@ pub enum Ending {
     Endless,
 }
 
-impl Ending {
+impl EndReason {
     /// Returns its name.
     fn name(self) -> &'static str {
         match self {
-            Ending::Closed => "Closed",
-            Ending::Read => "Read",
-            Ending::Write => "Write",
-            Ending::Hub => "Hub",
-            Ending::Memory => "Memory",
-            Ending::Endless => "Endless",
+            EndReason::Closed => "Closed",
+            EndReason::Read => "Read",
+            EndReason::Write => "Write",
+            EndReason::Hub => "Hub",
+            EndReason::Memory => "Memory",
+            EndReason::Endless => "Endless",
         }
     }
 }

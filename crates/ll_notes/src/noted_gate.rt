@@ -1,5 +1,5 @@
 //! The gate of one publisher's connection.
-use crate::note::{Ending, Noted};
+use crate::note::{EndReason, Noted};
 use crate::notes::Notes;
 use crate::remote::Remote;
 use ll_counts::{Gate, bytes_of};
@@ -57,7 +57,7 @@ impl<'a, G, R: Clock + Wait> NotedGate<'a, G, R> {
     }
 
     /// Notes that the connection has ended, and why.
-    pub fn ended(&self, ending: Ending) {
+    pub fn ended(&self, ending: EndReason) {
         self.note(Noted::Ended {
             channel: self.channel.get(),
             items: self.items.get(),
@@ -104,8 +104,8 @@ impl<'a, G, R: Clock + Wait> NotedGate<'a, G, R> {
 }
 
 impl<G: Gate, R: Clock + Wait> Gate for NotedGate<'_, G, R> {
-    fn pass(&self, call: u64) {
-        self.gate.pass(call);
+    fn before_answer(&self, call: u64) {
+        self.gate.before_answer(call);
     }
 
     fn answered(&self, channel: usize, answer: &Answer) {

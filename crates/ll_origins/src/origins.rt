@@ -6,8 +6,8 @@ use ll_announce::{Message, Names, Standing};
 use ll_attr::Text;
 use ll_command::{Fault, Plan};
 use ll_device::{Reader, Source};
-use ll_pair::{Ending, Fed, Outlets, Pair, Taker, carry, feed};
-use ll_push::{Asked, Calendar, Ending as Published, PushFault, Target, ask};
+use ll_pair::{Carried, Fed, Outlets, Pair, Taker, carry, feed};
+use ll_push::{StandingAnswer, Calendar, Ending, PushFault, Target, ask};
 use ll_socket::{Address, Connector};
 use std::alloc::{AllocError, Global};
 use std::net::{Net, TcpListener, TcpStream};
@@ -83,7 +83,7 @@ pub fn publish_at_all<
     source: &mut I,
     clock: &mut C,
     shown: bool,
-) -> Result<Published, Fault> {
+) -> Result<Ending, Fault> {
     let origins = Origins {
         rt,
         alloc,
@@ -100,7 +100,7 @@ pub fn publish_at_all<
     );
     origins.board.end(rt);
     match fed {
-        Ok(_) if whole => Ok(Published::Whole),
+        Ok(_) if whole => Ok(Ending::Whole),
         Err(stopped) if whole => ending_of(stopped),
         Err(stopped) => ending_of(origins.last.into_inner().unwrap_or(stopped)),
         Ok(_) => match origins.last.into_inner() {
@@ -127,9 +127,9 @@ fn keep_of(job: &Job) -> usize {
 }
 
 /// Returns how publishing ends because of `stopped`.
-fn ending_of(stopped: Stopped) -> Result<Published, Fault> {
+fn ending_of(stopped: Stopped) -> Result<Ending, Fault> {
     match stopped {
-        Stopped::Refused(line) => Ok(Published::Refused(line)),
+        Stopped::Refused(line) => Ok(Ending::Refused(line)),
         Stopped::Fault(fault) => Err(Fault::Push(fault)),
     }
 }
@@ -166,9 +166,9 @@ impl<
             &mut Seen::new(self.rt, &self.board, number),
         );
         match done {
-            Ok(Ending::Whole) => true,
-            Ok(Ending::Left) => false,
-            Ok(Ending::Refused(line)) => self.leave(number, Stopped::Refused(line)),
+            Ok(Carried::Whole) => true,
+            Ok(Carried::Left) => false,
+            Ok(Carried::Refused(line)) => self.leave(number, Stopped::Refused(line)),
             Err(fault) => self.leave(number, Stopped::Fault(fault)),
         }
     }
@@ -181,9 +181,9 @@ impl<
             return Err(Stopped::Fault(PushFault::Connect));
         };
         match ask(self.alloc, &self.job.names(), &mut link) {
-            Ok(Asked::Standing(standing)) => Ok(standing),
-            Ok(Asked::Refused(line)) => Err(Stopped::Refused(line)),
-            Ok(Asked::Lost) => Err(Stopped::Fault(PushFault::Connect)),
+            Ok(StandingAnswer::Standing(standing)) => Ok(standing),
+            Ok(StandingAnswer::Refused(line)) => Err(Stopped::Refused(line)),
+            Ok(StandingAnswer::Lost) => Err(Stopped::Fault(PushFault::Connect)),
             Err(fault) => Err(Stopped::Fault(fault)),
         }
     }

@@ -8,8 +8,8 @@ use Rattle.ll_push.specs.Connecting.{AcceptsNothing}
 use Rattle.ll_push.specs.Exchanges.{IsUnanswered, LinkValue}
 use Rattle.ll_push.specs.Next.{IsAskedSo, IsOwn}
 use Rattle.ll_push.specs.Publishing.{led_by}
-use Rattle.ll_push.specs.declared.connection.Asked.{Asked}
-use Rattle.ll_push.specs.declared.connection.Asked.TheVariants as asked
+use Rattle.ll_push.specs.declared.connection.StandingAnswer.{StandingAnswer}
+use Rattle.ll_push.specs.declared.connection.StandingAnswer.TheVariants as asked
 use Rattle.ll_push.specs.declared.fault.PushFault.{PushFault}
 use Rattle.ll_push.specs.declared.fault.PushFault.TheVariants.{Input, Read, Clock, Connect, Elsewhere, BadAnswer, Memory, Endless}
 use Rattle.ll_pair.specs.Carrying.{Accepted, HasFailed, HasResumed, HasSentMost, Here, IsAsked, IsBroken, IsConnection, IsConnectionFault, IsEndless, IsReady, IsResumed, IsResumption, IsStep, Lost, Moved, Unanswered, Unasked, Unknown, Unresumed, Went, accepted_on}
@@ -61,7 +61,7 @@ went-prefix names p messages first _ _ _ _ (Went known more r q then left last d
 pub of-err : {X : Type 0} (r : Result X PushFault) (a b : PushFault) → r ≡ Err a → r ≡ Err b → a ≡ b
 of-err r a b h k = cc
 
-module _ (names : Names) (p : Progress) (messages : List MessageValue) (first then : LinkValue) (x : Asked) (said : IsAskedSo (question names) first then x)
+module _ (names : Names) (p : Progress) (messages : List MessageValue) (first then : LinkValue) (x : StandingAnswer) (said : IsAskedSo (question names) first then x)
     (left : Option (List MessageValue)) (told : left ≡ Some messages) where
   pub asked-lost : x ≡ asked.Lost → IsConnection names p messages first p left then (step.Gone false)
   asked-lost e = Lost left then told (subst (IsAskedSo (question names) first then) e said)

@@ -9,14 +9,14 @@ use Rattle.ll_push.specs.History.{idle_after}
 use Rattle.ll_push.specs.Publishing.{led_by}
 use Rattle.ll_push.specs.declared.fault.PushFault.{PushFault}
 use Rattle.ll_pair.specs.Carrying.{IsBroken, IsConnection, IsEndless, accepted_on}
-use Rattle.ll_pair.specs.declared.carrying.Ending.{Ending}
-use Rattle.ll_pair.specs.declared.carrying.Ending.TheVariants as ending
+use Rattle.ll_pair.specs.declared.carrying.Carried.{Carried}
+use Rattle.ll_pair.specs.declared.carrying.Carried.TheVariants as ending
 use Rattle.ll_pair.specs.declared.progress.Progress.{Progress}
 use Rattle.ll_pair.specs.declared.progress.Step.{Step}
 use Rattle.ll_pair.specs.declared.progress.Step.TheVariants as step
 
 -- how far the last connection went, by how the origin's messages ended
-abbrev pub step_of : Ending → Step
+abbrev pub step_of : Carried → Step
 step_of ending.Whole = step.Whole
 step_of (ending.Refused line) = step.Refused line
 step_of ending.Left = step.Left
@@ -105,7 +105,7 @@ task gives value tries names place messages origin =
     record { gives = gives; value = value; tries = tries; names = names; place = place; messages = messages; origin = origin }
 
 -- a line that is told as a refusal is one
-abbrev pub EndsByAnswer : Ending → Type 0
+abbrev pub EndsByAnswer : Carried → Type 0
 EndsByAnswer ending.Whole = ⊤
 EndsByAnswer (ending.Refused line) = refuses line ≡ true
 EndsByAnswer ending.Left = ⊤

@@ -20,7 +20,7 @@ use std::alloc::Global;
 
 /// How bringing messages to an origin ended.
 #[derive(Drop)]
-pub enum Ending {
+pub enum Carried {
     /// The origin has accepted everything.
     Whole,
     /// The origin refused what was sent last, with this line, which is without its end.
@@ -45,7 +45,7 @@ pub fn carry<S: Source, M: Coming, W: Watch>(
     coming: &mut M,
     origin: &mut S,
     watch: &mut W,
-) -> Result<Ending, PushFault>
+) -> Result<Carried, PushFault>
     ensures told { IfOk result EndsByAnswer }
     ensures went { (messages : List MessageValue) → M.coming coming.old ≡ Some messages
         → IfOk result (λ ending. HasEnded (spec.task S.next_gives (link_value S.Peer.written S.Peer.inward S.Peer.failures) tries (named names.now) place messages origin.old) (M.coming coming.new) origin.new (step_of ending)) }
@@ -68,9 +68,9 @@ pub fn carry<S: Source, M: Coming, W: Watch>(
         let step = progress.carry_on(alloc, names, coming, &mut link, watch);
         drop(link);
         match step {
-            Ok(Step::Whole) => return Ok(Ending::Whole),
-            Ok(Step::Refused(line)) => return Ok(Ending::Refused(line)),
-            Ok(Step::Left) => return Ok(Ending::Left),
+            Ok(Step::Whole) => return Ok(Carried::Whole),
+            Ok(Step::Refused(line)) => return Ok(Carried::Refused(line)),
+            Ok(Step::Left) => return Ok(Carried::Left),
             Ok(Step::Gone { accepted }) => idle = after_one_more(accepted, idle),
             Err(fault) => return Err(fault),
         }

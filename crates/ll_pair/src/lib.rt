@@ -11,7 +11,7 @@ mod places;
 mod progress;
 mod shared;
 
-pub use carrying::{Ending, carry};
+pub use carrying::{Carried, carry};
 pub use coming::{Coming, First};
 pub use feeding::{Fed, Outlets, feed};
 pub use pair::{Pair, Taker};

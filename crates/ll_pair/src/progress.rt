@@ -10,7 +10,7 @@ use crate::coming::{Coming, First};
 use ll_announce::{Names, Place};
 use ll_attr::Text;
 use ll_device::Link;
-use ll_push::{Asked, Delivery, PushFault, Watch, ask, deliver};
+use ll_push::{StandingAnswer, Delivery, PushFault, Watch, ask, deliver};
 use std::alloc::Global;
 
 /// How far an origin is known to be.
@@ -74,9 +74,9 @@ impl Progress {
         ensures connected { IfErr result (λ fault. fault ≢ PushFault.Connect) }
     {
         let standing = match ask(alloc, names, link)? {
-            Asked::Standing(standing) => standing,
-            Asked::Refused(line) => return Ok(Step::Refused(line)),
-            Asked::Lost => return Ok(Step::Gone { accepted: false }),
+            StandingAnswer::Standing(standing) => standing,
+            StandingAnswer::Refused(line) => return Ok(Step::Refused(line)),
+            StandingAnswer::Lost => return Ok(Step::Gone { accepted: false }),
         };
         match self.resume(standing.place, coming)? {
             Resumed::On => {}

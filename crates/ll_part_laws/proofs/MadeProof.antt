@@ -3,14 +3,14 @@ use Rattle.std.specs.Prelude.{⊤}
 use Rattle.std.proofs.Common.{◌≡◌, ℕ, ◌<◌, true, List, [], ◌∷◌, ◌++◌, length, fold, is_some, Option, Some, None, Result, Ok, Err, refl, ap, sym, subst, ◌∙◌, append_assoc, arith, ◌⊎◌, inl, inr}
 use Rattle.std.proofs.lemmas.List.Elements.{All-nil}
 use Rattle.ll_mp4.specs.Elements.{element_of}
-use Rattle.ll_mp4.specs.Moments.{moment_of}
+use Rattle.ll_mp4.specs.DecodeTimes.{decode_time_of}
 use Rattle.ll_mp4.specs.Movies.{MovieValue}
 use Rattle.ll_mp4.specs.Numbers.{◌>>=◌}
 use Rattle.ll_mp4.specs.Streams.{Told as ToldUnits, fed, told}
 use Rattle.ll_mp4.specs.declared.element.Element.{Element}
 use Rattle.ll_mp4.specs.declared.element.Element.TheVariants.{Movie, Fragment, Beside}
 use Rattle.ll_mp4.specs.declared.fault.StreamFault.{StreamFault}
-use Rattle.ll_mp4.specs.declared.timing.Moment.{Moment}
+use Rattle.ll_mp4.specs.declared.timing.DecodeTime.{DecodeTime}
 use Rattle.ll_mp4.specs.declared.timing.Timing.{Timing}
 use Rattle.ll_parts.specs.Joined.{beside, end_of, heard, on_stage, over, refusal, refusal_beside}
 use Rattle.ll_parts.specs.Stream.{Brought, Progress, Stream, advanced, advanced_by, advanced_from, all_pieces, begun_cutter, brought, brought_by, ended_by, unless, with_beside, with_element}
@@ -45,9 +45,9 @@ module _ (s : Stream) (p : Place) (units : List (List ℕ)) (stands : Stands s p
   as-known : (unit : List ℕ) (r : Result Element StreamFault) → element_of s.movie unit ≡ r → element_of p.movie unit ≡ r
   as-known unit r e = ap (λ movie. element_of movie unit) stands.movie ∙ e
 
-  with-beside-told : (unit : List ℕ) (moment : Option Moment) → element_of s.movie unit ≡ Ok (Beside moment) → BroughtWith unit (with_beside s unit moment)
-  with-beside-told unit moment e =
-      let other : Other = record { bytes = unit; moment = moment } in
+  with-beside-told : (unit : List ℕ) (decode_time : Option DecodeTime) → element_of s.movie unit ≡ Ok (Beside decode_time) → BroughtWith unit (with_beside s unit decode_time)
+  with-beside-told unit decode_time e =
+      let other : Other = record { bytes = unit; decode_time = decode_time } in
       unless-told s.joining.lengths p (units ++ unit ∷ []) (refusal_beside s.joining.stage (length unit))
       (record { pieces = []; after = record s { joining = on_stage s.joining (beside s.joining.stage other) } })
       (λ fine. record {
@@ -57,7 +57,7 @@ module _ (s : Stream) (p : Place) (units : List (List ℕ)) (stands : Stands s p
         said = [];
         later = units ++ unit ∷ [];
         comes = comes-none s.joining.lengths p;
-        stage = beside-told s.joining.lengths s.joining.heading s.joining.end p s.joining.stage units other (moment, as-known unit (Ok (Beside moment)) e)
+        stage = beside-told s.joining.lengths s.joining.heading s.joining.end p s.joining.stage units other (decode_time, as-known unit (Ok (Beside decode_time)) e)
             (beside-small s.joining.stage (length unit) fine) stands.stage;
         whole = refl;
       })
@@ -74,12 +74,12 @@ module _ (s : Stream) (p : Place) (units : List (List ℕ)) (stands : Stands s p
   element-told unit (Ok (Movie movie)) some e =
       begun-told s.joining p units unit movie stands.stage (λ q same. ap (λ movie. element_of movie unit) (same ∙ stands.movie) ∙ e)
   element-told unit (Ok (Fragment timing)) some e = fragment-told unit timing some e
-  element-told unit (Ok (Beside moment)) some e = with-beside-told unit moment e
+  element-told unit (Ok (Beside decode_time)) some e = with-beside-told unit decode_time e
 
   -- no bytes aren't a fragment
   none-told : (movie : Option MovieValue) → s.movie ≡ movie → BroughtWith [] (element_of movie [] >>= with_element s [])
   none-told None e = tt
-  none-told (Some movie) e = with-beside-told [] (moment_of movie []) (ap (λ movie. element_of movie []) e)
+  none-told (Some movie) e = with-beside-told [] (decode_time_of movie []) (ap (λ movie. element_of movie []) e)
 
   brought-told : (unit : List ℕ) → BroughtWith unit (brought s unit)
   brought-told [] = none-told s.movie refl

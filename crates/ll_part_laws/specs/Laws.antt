@@ -6,7 +6,7 @@ use Rattle.ll_mp4.specs.Elements.{element_of}
 use Rattle.ll_mp4.specs.Movies.{MovieValue}
 use Rattle.ll_mp4.specs.Streams.{at_front, fed, told}
 use Rattle.ll_mp4.specs.declared.element.Element.TheVariants as element
-use Rattle.ll_mp4.specs.declared.timing.Moment.{Moment}
+use Rattle.ll_mp4.specs.declared.timing.DecodeTime.{DecodeTime}
 use Rattle.ll_mp4.specs.declared.timing.Timing.{Timing}
 use Rattle.ll_parts.specs.Joined.{heading_of}
 use Rattle.ll_parts.specs.Stream.{published}
@@ -93,7 +93,7 @@ after p (Lost units) = p
 
 -- a unit without a fragment of the movie's governing track
 abbrev pub IsBeside : Option MovieValue → List ℕ → Type 0
-IsBeside movie unit = (moment : Option Moment) × (element_of movie unit ≡ Ok (element.Beside moment))
+IsBeside movie unit = (decode_time : Option DecodeTime) × (element_of movie unit ≡ Ok (element.Beside decode_time))
 
 -- a unit with a fragment of the governing track, and the others that go with it, which have none
 pub record IsFragment (movie : Option MovieValue) (f : Fragment) : Type 0 where

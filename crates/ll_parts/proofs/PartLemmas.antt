@@ -6,7 +6,7 @@ use native.Mathlib.Nat.{zero-div}
 use Rattle.std.proofs.lemmas.List.Elements.{All-append, All-cons, All-nil}
 use Rattle.std.specs.List.{All}
 use Rattle.ll_mp4.specs.Elements.{element_of}
-use Rattle.ll_mp4.specs.Moments.{moment_of}
+use Rattle.ll_mp4.specs.DecodeTimes.{decode_time_of}
 use Rattle.ll_mp4.specs.Movies.{MovieValue}
 use Rattle.ll_mp4.specs.Numbers.{◌>>=◌}
 use Rattle.ll_mp4.specs.Streams.{fed, told}
@@ -14,7 +14,7 @@ use Rattle.ll_mp4.specs.declared.element.Element.{Element}
 use Rattle.ll_mp4.specs.declared.element.Element.TheVariants.{Movie, Fragment, Beside}
 use Rattle.ll_mp4.specs.declared.fault.StreamFault.{StreamFault}
 use Rattle.ll_mp4.specs.declared.fault.StreamFault.TheVariants.{TooLarge, TooLong}
-use Rattle.ll_mp4.specs.declared.timing.Moment.{Moment}
+use Rattle.ll_mp4.specs.declared.timing.DecodeTime.{DecodeTime}
 use Rattle.ll_mp4.specs.declared.timing.Timing.{Timing}
 use Rattle.ll_parts.specs.Joined.{Joining, Taken, begun, beside, first_time, first_times, followed, group_of, heard, held_of, on_stage, over, parting, refusal, refusal_beside, said_after, said_before, step_of, with_group, with_part}
 use Rattle.ll_runs.specs.Refusals.{is_long, refusal_at, refusal_by, refusal_of}
@@ -309,10 +309,10 @@ unless-fits : (j : Joining) (fault : Option StreamFault) (b : Brought) → (faul
 unless-fits j (Some fault) b fits = tt
 unless-fits j None b fits = fits refl
 
-with-beside-fits : (s : Stream) (unit : List ℕ) (moment : Option Moment) → StageFits s.joining.lengths s.joining.heading.scale s.joining.stage
-    → BroughtFits s.joining (with_beside s unit moment)
-with-beside-fits s unit moment fits =
-    let other : Other = record { bytes = unit; moment = moment } in
+with-beside-fits : (s : Stream) (unit : List ℕ) (decode_time : Option DecodeTime) → StageFits s.joining.lengths s.joining.heading.scale s.joining.stage
+    → BroughtFits s.joining (with_beside s unit decode_time)
+with-beside-fits s unit decode_time fits =
+    let other : Other = record { bytes = unit; decode_time = decode_time } in
     unless-fits s.joining (refusal_beside s.joining.stage (length unit)) (record { pieces = []; after = record s { joining = on_stage s.joining (beside s.joining.stage other) } })
     (λ _. (refl, All-nil (IsShort s.joining.lengths), beside-fits s.joining.lengths s.joining.heading.scale s.joining.stage other fits))
 
@@ -323,13 +323,13 @@ element-fits s unit (Ok (Movie movie)) some fits = begun-fits s.joining unit mov
 element-fits s unit (Ok (Fragment timing)) some fits =
     unless-fits s.joining (refusal s.joining s.joining.stage (length unit) timing) (brought_by s.movie (heard s.joining s.joining.stage unit timing))
     (λ none. heard-fits s.joining s.joining.stage unit timing some none fits)
-element-fits s unit (Ok (Beside moment)) some fits = with-beside-fits s unit moment fits
+element-fits s unit (Ok (Beside decode_time)) some fits = with-beside-fits s unit decode_time fits
 
 -- no bytes aren't a fragment
 none-fits : (s : Stream) (movie : Option MovieValue) → StageFits s.joining.lengths s.joining.heading.scale s.joining.stage
     → BroughtFits s.joining (element_of movie [] >>= with_element s [])
 none-fits s None fits = tt
-none-fits s (Some movie) fits = with-beside-fits s [] (moment_of movie []) fits
+none-fits s (Some movie) fits = with-beside-fits s [] (decode_time_of movie []) fits
 
 brought-fits : (s : Stream) (unit : List ℕ) → StageFits s.joining.lengths s.joining.heading.scale s.joining.stage → BroughtFits s.joining (brought s unit)
 brought-fits s [] fits = none-fits s s.movie fits

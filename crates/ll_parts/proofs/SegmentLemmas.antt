@@ -11,7 +11,7 @@ use Rattle.ll_mp4.specs.declared.element.Element.{Element}
 use Rattle.ll_mp4.specs.declared.element.Element.TheVariants.{Movie, Fragment, Beside}
 use Rattle.ll_mp4.specs.declared.fault.StreamFault.{StreamFault}
 use Rattle.ll_mp4.specs.declared.fault.StreamFault.TheVariants.{TooLarge}
-use Rattle.ll_mp4.specs.declared.timing.Moment.{Moment}
+use Rattle.ll_mp4.specs.declared.timing.DecodeTime.{DecodeTime}
 use Rattle.ll_mp4.specs.declared.timing.Timing.{Timing}
 use Rattle.ll_parts.proofs.PartLemmas.{not-long, or-right}
 use Rattle.ll_parts.specs.Joined.{Joining, Taken, begun, beside, first_time, first_times, heard, held_of, on_stage, over, refusal, refusal_beside, with_part}
@@ -191,10 +191,10 @@ unless-goes : (j : Joining) (n : ℕ) (fault : Option StreamFault) (b : Brought)
 unless-goes j n (Some fault) b goes = tt
 unless-goes j n None b goes = goes refl
 
-beside-goes : (s : Stream) (n : ℕ) (unit : List ℕ) (moment : Option Moment) → IsOpen s.joining.lengths n s.joining.stage
-    → BroughtGoes s.joining n (with_beside s unit moment)
-beside-goes s n unit moment opened =
-    let other : Other = record { bytes = unit; moment = moment } in
+beside-goes : (s : Stream) (n : ℕ) (unit : List ℕ) (decode_time : Option DecodeTime) → IsOpen s.joining.lengths n s.joining.stage
+    → BroughtGoes s.joining n (with_beside s unit decode_time)
+beside-goes s n unit decode_time opened =
+    let other : Other = record { bytes = unit; decode_time = decode_time } in
     unless-goes s.joining n (refusal_beside s.joining.stage (length unit))
     (record { pieces = []; after = record s { joining = on_stage s.joining (beside s.joining.stage other) } })
     (λ _. (n, refl, refl, beside-opened s.joining.lengths n s.joining.stage other opened))
@@ -206,7 +206,7 @@ element-goes s n unit (Ok (Movie movie)) prompt opened = begun-goes s.joining n 
 element-goes s n unit (Ok (Fragment timing)) prompt opened =
     unless-goes s.joining n (refusal s.joining s.joining.stage (length unit) timing) (brought_by s.movie (heard s.joining s.joining.stage unit timing))
     (λ none. heard-goes s.joining n s.joining.stage unit timing prompt none opened)
-element-goes s n unit (Ok (Beside moment)) prompt opened = beside-goes s n unit moment opened
+element-goes s n unit (Ok (Beside decode_time)) prompt opened = beside-goes s n unit decode_time opened
 
 -- ---- all units
 

@@ -11,7 +11,7 @@ bytes_of (other ∷ others) = other.bytes ++ bytes_of others
 -- ---- which of those between two fragments go with the second, if a run ends between them
 
 abbrev pub leads : ℕ → ℕ → ℕ → Other → Bool
-leads scale first second other = is_nearer scale first second other.moment
+leads scale first second other = is_nearer scale first second other.decode_time
 
 -- the number of elements that go with the first: all, unless the run ends between the two
 abbrev pub stay : Bool → (Other → Bool) → List Other → ℕ

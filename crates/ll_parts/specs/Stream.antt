@@ -11,7 +11,7 @@ use Rattle.ll_mp4.specs.declared.fault.StreamFault.TheVariants.{Memory, NoMoov}
 use Rattle.ll_parts.specs.Joined.{Joining, Taken, at_start, begun, beside, finished, heard, on_stage, over, refusal, refusal_beside}
 use Rattle.ll_runs.specs.declared.lengths.Lengths.{Lengths}
 use Rattle.ll_parts.specs.declared.pieces.Piece.{Piece}
-use Rattle.ll_mp4.specs.declared.timing.Moment.{Moment}
+use Rattle.ll_mp4.specs.declared.timing.DecodeTime.{DecodeTime}
 
 -- the last movie, and what is joined of it
 pub record Stream : Type 0 where
@@ -33,15 +33,15 @@ unless (Some fault) brought = Err fault
 unless None brought = Ok brought
 
 -- a unit that goes with the fragment before it
-abbrev pub with_beside : Stream → List ℕ → Option Moment → Result Brought StreamFault
-with_beside s unit moment =
+abbrev pub with_beside : Stream → List ℕ → Option DecodeTime → Result Brought StreamFault
+with_beside s unit decode_time =
     unless (refusal_beside s.joining.stage (length unit))
-    (record { pieces = []; after = record s { joining = on_stage s.joining (beside s.joining.stage (record { bytes = unit; moment = moment })) } })
+    (record { pieces = []; after = record s { joining = on_stage s.joining (beside s.joining.stage (record { bytes = unit; decode_time = decode_time })) } })
 
 abbrev pub with_element : Stream → List ℕ → Element → Result Brought StreamFault
 with_element s unit (Movie movie) = Ok (brought_by (Some movie) (begun s.joining unit movie))
 with_element s unit (Fragment timing) = unless (refusal s.joining s.joining.stage (length unit) timing) (brought_by s.movie (heard s.joining s.joining.stage unit timing))
-with_element s unit (Beside moment) = with_beside s unit moment
+with_element s unit (Beside decode_time) = with_beside s unit decode_time
 
 abbrev pub brought : Stream → List ℕ → Result Brought StreamFault
 brought s unit = do

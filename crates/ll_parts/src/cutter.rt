@@ -4,7 +4,7 @@ ghost use Rattle.ll_mp4.specs.Streams.{end_fault};
 ghost use Rattle.ll_parts.specs.Stream.{advanced_cutter, begun_cutter, closed, or_no_movie, stopped, with_bytes, with_first};
 
 use crate::joiner::Joiner;
-use crate::pieces::{Piece, Pieces};
+use crate::pieces::{Piece, PieceQueue};
 use crate::stream::Stream;
 use ll_mp4::{Splitter, StreamFault};
 use ll_runs::Lengths;
@@ -18,7 +18,7 @@ pub struct Cutter {
     splitter: Splitter,
     stream: Stream,
     /// The pieces that weren't taken yet.
-    pieces: Pieces,
+    pieces: PieceQueue,
     fault: Option<StreamFault>,
     is_over: bool,
 }
@@ -46,7 +46,7 @@ impl Cutter {
                 movie: None,
                 joiner: Joiner::new(alloc, lengths, end),
             },
-            pieces: Pieces::new(alloc),
+            pieces: PieceQueue::new(alloc),
             fault: None,
             is_over: false,
         }

@@ -8,7 +8,7 @@ ghost use Rattle.ll_runs.specs.declared.times.Next.{Next};
 
 use crate::bytes::Bytes;
 use crate::heading::Heading;
-use crate::pieces::{MediaPart, Piece, Pieces};
+use crate::pieces::{MediaPart, Piece, PieceQueue};
 use crate::stage::{Group, Held, Onward};
 use ll_runs::{Cut, Judged, Lengths, Next, Times, Weight};
 use ll_shift::Shift;
@@ -54,7 +54,7 @@ impl Frame<'_> {
         under: Bytes,
         judged: Judged,
         more: Bytes,
-        out: &mut Pieces,
+        out: &mut PieceQueue,
     ) -> Result<Bytes, AllocError>
         ensures { IfOk result (λ bytes. (bytes ≡ spec.with_group judged.cut under more) × (out.new ≡ out.old ++ spec.said_before self.now.heading.now times.now under judged.begin judged.cut)) }
     {
@@ -75,7 +75,7 @@ impl Frame<'_> {
         under: Bytes,
         end: u64,
         next: Next,
-        out: &mut Pieces,
+        out: &mut PieceQueue,
     ) -> Result<(), AllocError>
         requires { is_counted self.now.heading.now.scale (place_of next) ≡ true }
         ensures { IfOk result (λ _. out.new ≡ out.old ++ spec.said_after self.now.heading.now times.now under end true next) }
@@ -87,7 +87,7 @@ impl Frame<'_> {
 
     /// Appends to `out` the pieces between a run with these `times` and the next: none if nothing comes after it, else a break and the initialization
     /// section.
-    pub(crate) fn end(&self, times: &Times, next: Next, out: &mut Pieces) -> Result<(), AllocError>
+    pub(crate) fn end(&self, times: &Times, next: Next, out: &mut PieceQueue) -> Result<(), AllocError>
         requires { is_counted self.now.heading.now.scale (place_of next) ≡ true }
         ensures { IfOk result (λ _. out.new ≡ out.old ++ ending self.now.heading.now times.now next) }
     {
@@ -108,7 +108,7 @@ impl Frame<'_> {
         under: Bytes,
         group: Group,
         next: Next,
-        out: &mut Pieces,
+        out: &mut PieceQueue,
     ) -> Result<Onward, AllocError>
         requires counted { is_counted self.now.heading.now.scale (times.position + group.ticks) ≡ true }
         requires place { is_counted self.now.heading.now.scale (place_of next) ≡ true }
@@ -133,7 +133,7 @@ impl Frame<'_> {
         group: Group,
         next: Next,
         judged: Judged,
-        out: &mut Pieces,
+        out: &mut PieceQueue,
     ) -> Result<Onward, AllocError>
         requires { is_counted self.now.heading.now.scale (place_of next) ≡ true }
         ensures onward { IfOk result (λ onward. onward ≡ (spec.step_by self.now.heading.now times under group next judged).onward) }
@@ -153,7 +153,7 @@ impl Frame<'_> {
         under: Bytes,
         next: Next,
         judged: Judged,
-        out: &mut Pieces,
+        out: &mut PieceQueue,
     ) -> Result<Onward, AllocError>
         requires { is_counted self.now.heading.now.scale (place_of next) ≡ true }
         ensures onward { IfOk result (λ onward. onward ≡ spec.onward_after times under judged.end judged.ends next) }
@@ -184,7 +184,7 @@ impl Frame<'_> {
         times: Times,
         under: Bytes,
         held: Held,
-        out: &mut Pieces,
+        out: &mut PieceQueue,
     ) -> Result<u64, AllocError>
         requires { is_counted self.now.heading.now.scale (times.position + held.ticks) ≡ true }
         ensures end { IfOk result (λ end. end ≡ (step_of self.now.lengths.now self.now.heading.now times under (group_of held held.since) Next.Over).onward.end) }

@@ -10,9 +10,9 @@ use crate::bytes::Bytes;
 use crate::frame::Frame;
 use crate::heading::{Heading, Scales};
 use crate::others::{Other, Others};
-use crate::pieces::{Piece, Pieces};
+use crate::pieces::{Piece, PieceQueue};
 use crate::stage::{Held, Parting, Stage};
-use ll_mp4::{Moment, Movie, StreamFault, Timing};
+use ll_mp4::{DecodeTime, Movie, StreamFault, Timing};
 use ll_runs::{
     Lengths, SIZE_LIMIT, Span, Times, ends_run, next_after, next_at, place_of, refusal_at,
     refusal_of,
@@ -68,7 +68,7 @@ impl Joiner {
         &mut self,
         section: &[u8],
         movie: &Movie,
-        out: &mut Pieces,
+        out: &mut PieceQueue,
     ) -> Result<(), AllocError>
         ensures { IfOk result (λ _. (out.new ≡ out.old ++ (begun self.old section.now movie.now).pieces) × (self.new ≡ (begun self.old section.now movie.now).after)) }
     {
@@ -83,7 +83,7 @@ impl Joiner {
     }
 
     /// Ends the movie, and appends its last pieces to `out`.
-    pub fn finish(&mut self, out: &mut Pieces) -> Result<(), AllocError>
+    pub fn finish(&mut self, out: &mut PieceQueue) -> Result<(), AllocError>
         ensures pieces { IfOk result (λ _. out.new ≡ out.old ++ over self.old self.old.stage) }
         ensures after { IfOk result (λ _. self.new ≡ spec.finished self.old) }
     {
@@ -112,7 +112,7 @@ impl Joiner {
         &mut self,
         bytes: &[u8],
         timing: Timing,
-        out: &mut Pieces,
+        out: &mut PieceQueue,
     ) -> Result<(), StreamFault>
         ensures taken { IfOk result (λ _. (out.new ≡ out.old ++ (heard self.old self.old.stage bytes.now timing).pieces) × (self.new ≡ (heard self.old self.old.stage bytes.now timing).after)) }
         ensures accepted { IfOk result (λ _. refusal self.old self.old.stage (length bytes.now) timing ≡ None) }
@@ -133,13 +133,13 @@ impl Joiner {
         }
     }
 
-    /// Adds bytes without a fragment of the governing track, of which `moment` is the first decode time of another track's.
+    /// Adds bytes without a fragment of the governing track, of which `decode_time` is the first decode time of another track's.
     ///
     /// # Errors
     ///
     /// `TooLarge` if the bytes that go with a fragment are more than 1,048,576 with them, and then nothing changes; or `Memory`.
-    pub fn join(&mut self, bytes: &[u8], moment: Option<Moment>) -> Result<(), StreamFault>
-        ensures taken { IfOk result (λ _. self.new ≡ spec.on_stage self.old (spec.beside self.old.stage (record { bytes = bytes.now; moment = moment }))) }
+    pub fn join(&mut self, bytes: &[u8], decode_time: Option<DecodeTime>) -> Result<(), StreamFault>
+        ensures taken { IfOk result (λ _. self.new ≡ spec.on_stage self.old (spec.beside self.old.stage (record { bytes = bytes.now; decode_time = decode_time }))) }
         ensures accepted { IfOk result (λ _. spec.refusal_beside self.old.stage (length bytes.now) ≡ None) }
         ensures refused { IfErr result (λ fault. fault ≢ Memory → (spec.refusal_beside self.old.stage (length bytes.now) ≡ Some fault) × (self.new ≡ self.old)) }
     {
@@ -149,7 +149,7 @@ impl Joiner {
         let bytes = Bytes::of(self.alloc, bytes)?;
         match &mut self.stage {
             Stage::Silent(lead) => lead.add(bytes.as_slice())?,
-            Stage::Under(held, _, _) => held.since.push(Other { bytes, moment })?,
+            Stage::Under(held, _, _) => held.since.push(Other { bytes, decode_time })?,
             Stage::Prompt(lead, _) => lead.add(bytes.as_slice())?,
         }
         Ok(())
@@ -215,7 +215,7 @@ impl Joiner {
         under: Bytes,
         bytes: &[u8],
         timing: Timing,
-        out: &mut Pieces,
+        out: &mut PieceQueue,
     ) -> Result<(), StreamFault>
         requires { is_counted self.old.heading.scale (times.position + held.ticks) ≡ true }
         ensures taken { IfOk result (λ _. (out.new ≡ out.old ++ (heard self.old (spec.under held times under) bytes.now timing).pieces) × (self.new ≡ (heard self.old (spec.under held times under) bytes.now timing).after)) }
@@ -257,7 +257,7 @@ impl Joiner {
         mut lead: Bytes,
         bytes: &[u8],
         timing: Timing,
-        out: &mut Pieces,
+        out: &mut PieceQueue,
     ) -> Result<(), StreamFault>
         requires { self.old.lengths.ahead ≡ false }
         ensures taken { IfOk result (λ _. (out.new ≡ out.old ++ (heard self.old (spec.silent lead) bytes.now timing).pieces) × (self.new ≡ (heard self.old (spec.silent lead) bytes.now timing).after)) }
@@ -291,7 +291,7 @@ impl Joiner {
         times: Times,
         bytes: &[u8],
         timing: Timing,
-        out: &mut Pieces,
+        out: &mut PieceQueue,
     ) -> Result<(), StreamFault>
         requires { is_counted self.old.heading.scale times.position ≡ true }
         ensures taken { IfOk result (λ _. (out.new ≡ out.old ++ (heard self.old (spec.prompt lead times) bytes.now timing).pieces) × (self.new ≡ (heard self.old (spec.prompt lead times) bytes.now timing).after)) }

@@ -19,4 +19,4 @@ pub use cutter::Cutter;
 pub use joiner::Joiner;
 pub use laws::cutter_law;
 pub use ll_runs::{Lengths, SIZE_LIMIT};
-pub use pieces::{MediaPart, Piece, Pieces};
+pub use pieces::{MediaPart, Piece, PieceQueue};

@@ -4,7 +4,7 @@ ghost use Rattle.ll_parts.specs.Others.{bytes_of, leads};
 ghost use Rattle.ll_parts.specs.Others as spec;
 
 use crate::bytes::Bytes;
-use ll_mp4::Moment;
+use ll_mp4::DecodeTime;
 use ll_runs::Span;
 use std::alloc::{AllocError, Global};
 use std::marker::Model;
@@ -14,14 +14,14 @@ pub(crate) struct Other {
     /// The bytes.
     pub(crate) bytes: Bytes,
     /// The first decode time of another track's fragment among them.
-    pub(crate) moment: Option<Moment>,
+    pub(crate) decode_time: Option<DecodeTime>,
 }
 
 impl Drop for Other {
     fn drop(self) {
         let Other {
             bytes: _bytes,
-            moment: _moment,
+            decode_time: _decode_time,
         } = self;
     }
 }
@@ -114,7 +114,7 @@ impl Others {
     {
         self.items
             .iter()
-            .position(|other| span.is_nearer(other.moment))
+            .position(|other| span.is_nearer(other.decode_time))
     }
 
     /// Appends the bytes of the first `count` elements to `bytes`.

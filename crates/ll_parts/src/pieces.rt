@@ -57,15 +57,15 @@ impl Drop for MediaPart {
 }
 
 /// The pieces to be published, the first at the front.
-pub struct Pieces(VecDeque<Piece>);
+pub struct PieceQueue(VecDeque<Piece>);
 
-impl Drop for Pieces {
+impl Drop for PieceQueue {
     fn drop(self) {
-        let Pieces(_all) = self;
+        let PieceQueue(_all) = self;
     }
 }
 
-impl Model for Pieces {
+impl Model for PieceQueue {
     ghost use Rattle.std.specs.Prelude.{List};
     ghost use Rattle.ll_parts.specs.declared.pieces.Piece.{Piece};
 
@@ -74,12 +74,12 @@ impl Model for Pieces {
     ghost view = { λ p. p.0.items };
 }
 
-impl Pieces {
+impl PieceQueue {
     /// Makes an empty queue.
-    pub fn new(alloc: Global) -> Pieces
+    pub fn new(alloc: Global) -> PieceQueue
         ensures { result ≡ [] }
     {
-        Pieces(VecDeque::new(alloc))
+        PieceQueue(VecDeque::new(alloc))
     }
 
     /// Adds `piece` at the end.

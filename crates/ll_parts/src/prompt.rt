@@ -7,14 +7,14 @@ ghost use Rattle.ll_runs.specs.Times.{is_counted, place_of};
 
 use crate::bytes::Bytes;
 use crate::frame::Frame;
-use crate::pieces::{Piece, Pieces};
+use crate::pieces::{Piece, PieceQueue};
 use ll_mp4::Timing;
 use ll_runs::{Next, Times};
 use std::alloc::AllocError;
 
 impl Frame<'_> {
     /// Appends a finish to `out` if a segment is open.
-    pub(crate) fn finish(&self, times: &Times, out: &mut Pieces) -> Result<(), AllocError>
+    pub(crate) fn finish(&self, times: &Times, out: &mut PieceQueue) -> Result<(), AllocError>
         ensures { IfOk result (λ _. out.new ≡ out.old ++ spec.finish times.now) }
     {
         if times.start > times.segment {
@@ -25,7 +25,7 @@ impl Frame<'_> {
 
     /// Appends to `out` the pieces before `next`: if the run ends, a finish if a segment is open, a break and
     /// the initialization section.
-    fn end_before(&self, times: &Times, next: Next, out: &mut Pieces) -> Result<(), AllocError>
+    fn end_before(&self, times: &Times, next: Next, out: &mut PieceQueue) -> Result<(), AllocError>
         requires { is_counted self.now.heading.now.scale (place_of next) ≡ true }
         ensures { IfOk result (λ _. out.new ≡ out.old ++ spec.said_between self.now.heading.now times.now next) }
     {
@@ -45,7 +45,7 @@ impl Frame<'_> {
         times: Times,
         bytes: Bytes,
         timing: Timing,
-        out: &mut Pieces,
+        out: &mut PieceQueue,
     ) -> Result<Times, AllocError>
         requires counted { is_counted self.now.heading.now.scale (times.position + timing.ticks) ≡ true }
         requires early { runs.part_end times (runs.part_lasts self.now.heading.now.scale times timing.ticks) < 2 ^ 64 }
@@ -71,7 +71,7 @@ impl Frame<'_> {
         next: Next,
         bytes: Bytes,
         timing: Timing,
-        out: &mut Pieces,
+        out: &mut PieceQueue,
     ) -> Result<Times, AllocError>
         requires place { is_counted self.now.heading.now.scale (place_of next) ≡ true }
         requires counted { is_counted self.now.heading.now.scale ((runs.times_at times.now next).position + timing.ticks) ≡ true }

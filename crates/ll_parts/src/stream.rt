@@ -4,7 +4,7 @@ ghost use Rattle.ll_parts.specs.Joined.{finished, over};
 ghost use Rattle.ll_parts.specs.Stream.{Brings, IsRefused};
 
 use crate::joiner::Joiner;
-use crate::pieces::Pieces;
+use crate::pieces::PieceQueue;
 use ll_mp4::{Element, Movie, StreamFault, read_element};
 use std::alloc::{AllocError, Global};
 use std::marker::Model;
@@ -34,7 +34,7 @@ impl Stream {
         &mut self,
         alloc: Global,
         unit: &[u8],
-        out: &mut Pieces,
+        out: &mut PieceQueue,
     ) -> Result<(), StreamFault>
         ensures { MatchResult result (λ _. Brings self.old unit.now out.old self.new out.new) (IsRefused self.old unit.now out.old self.new out.new) }
     {
@@ -45,12 +45,12 @@ impl Stream {
                 Ok(())
             }
             Element::Fragment(timing) => self.joiner.hear(unit, timing, out),
-            Element::Beside(moment) => self.joiner.join(unit, moment),
+            Element::Beside(decode_time) => self.joiner.join(unit, decode_time),
         }
     }
 
     /// Appends to `out` the last pieces of the movie.
-    pub(crate) fn finish(&mut self, out: &mut Pieces) -> Result<(), AllocError>
+    pub(crate) fn finish(&mut self, out: &mut PieceQueue) -> Result<(), AllocError>
         ensures pieces { IfOk result (λ _. out.new ≡ out.old ++ over self.old.joining self.old.joining.stage) }
         ensures after { IfOk result (λ _. self.new ≡ record self.old { joining = finished self.old.joining }) }
     {

@@ -30,12 +30,12 @@ impl Begun {
         }
     }
 
-    /// Begins the first answer that is left, unless that was done: counts it, and lets it pass `gate`.
+    /// Begins the first answer that is left, unless that was done: counts it, and calls `gate` before it.
     fn begin<G: Gate>(&mut self, gate: &G) {
         if !self.first {
             self.first = true;
             self.answers = self.answers.saturating_add(1);
-            gate.pass(self.answers);
+            gate.before_answer(self.answers);
         }
     }
 

@@ -117,7 +117,7 @@ fn answer<L: Ledgers, P: Link, C, G: Gate, K: Sink, D: Disk, B: Bell, R: Wait>(
         let (reply, kept) = reply_to(service, pass, opened, line)?;
         *answers = answers.saturating_add(1);
         service.gate.told(&reply);
-        service.gate.pass(*answers);
+        service.gate.before_answer(*answers);
         tell(service, link, &reply, kept)?;
     }
     unreachable!()

@@ -9,8 +9,8 @@ use Rattle.ll_push.specs.Exchanges.{AreExchanged, IsExchanged, IsLost, IsUnanswe
 use Rattle.ll_push.specs.Faults.{IsOfConnection, most}
 use Rattle.ll_push.specs.Next.{IsAskedSo, IsOwn}
 use Rattle.ll_push.specs.Publishing.{Ahead, HasSent, IsStep, TargetValue, fault_to_come, messages_to_come}
-use Rattle.ll_push.specs.declared.connection.Asked.{Asked}
-use Rattle.ll_push.specs.declared.connection.Asked.TheVariants as asked
+use Rattle.ll_push.specs.declared.connection.StandingAnswer.{StandingAnswer}
+use Rattle.ll_push.specs.declared.connection.StandingAnswer.TheVariants as asked
 use Rattle.ll_push.specs.declared.fault.PushFault.{PushFault}
 use Rattle.ll_push.specs.declared.fault.PushFault.TheVariants.{Input, Read, Clock, Connect, Elsewhere, BadAnswer, Memory, Endless}
 use Rattle.ll_push.specs.declared.publication.Publication.{Publication}
@@ -23,7 +23,7 @@ pub left-told : (t : TargetValue) (p : Option Publication) (a : Ahead) (first : 
 left-told t p a first _ _ _ _ (Lost left last told lost) = (a, told)
 left-told t p a first _ _ _ _ (Went r s then left last _ ready gone) = (gone.goes.rest, gone.goes.is_left)
 
-module _ (t : TargetValue) (before : Option Publication) (a : Ahead) (first then : LinkValue) (x : Asked) (said : IsAskedSo (question t.names) first then x) where
+module _ (t : TargetValue) (before : Option Publication) (a : Ahead) (first then : LinkValue) (x : StandingAnswer) (said : IsAskedSo (question t.names) first then x) where
   pub asked-lost : x ≡ asked.Lost → (left : Option Ahead) → left ≡ Some a → IsConnection t before a first before left then (step.Gone false)
   asked-lost e left told = Lost left then told (subst (IsAskedSo (question t.names) first then) e said)
 

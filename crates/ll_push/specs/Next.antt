@@ -11,8 +11,8 @@ use Rattle.ll_push.specs.Answers.{IsSaid, accepts, is_not_kept, refuses}
 use Rattle.ll_push.specs.Exchanges.{IsExchanged, IsLost, LinkValue}
 use Rattle.ll_push.specs.Publishing.{Ahead, TargetValue, fault_to_come, messages_to_come}
 use Rattle.ll_push.specs.declared.answer.Answer.{Answer}
-use Rattle.ll_push.specs.declared.connection.Asked.{Asked}
-use Rattle.ll_push.specs.declared.connection.Asked.TheVariants as asked
+use Rattle.ll_push.specs.declared.connection.StandingAnswer.{StandingAnswer}
+use Rattle.ll_push.specs.declared.connection.StandingAnswer.TheVariants as asked
 use Rattle.ll_push.specs.declared.connection.Delivery.{Delivery}
 use Rattle.ll_push.specs.declared.connection.Delivery.TheVariants as delivery
 use Rattle.ll_push.specs.declared.connection.Sent.{Sent}
@@ -115,7 +115,7 @@ IsSent before after text (Answered answer) = (line : List ℕ) × IsExchanged te
 IsSent before after text Lost = IsLost text before after
 
 -- the answer says where the rendition stands, or refuses, or the connection was lost
-abbrev pub IsAskedSo : List ℕ → LinkValue → LinkValue → Asked → Type 0
+abbrev pub IsAskedSo : List ℕ → LinkValue → LinkValue → StandingAnswer → Type 0
 IsAskedSo text before after (asked.Standing s) = (line : List ℕ) × IsExchanged text line before after × (standing.read line ≡ Some s)
 IsAskedSo text before after (asked.Refused line) = IsExchanged text line before after × (refuses line ≡ true)
 IsAskedSo text before after asked.Lost = IsLost text before after

@@ -40,7 +40,7 @@ pub enum Delivery {
 
 /// The result of asking where the rendition stands.
 #[derive(Drop)]
-pub enum Asked {
+pub enum StandingAnswer {
     /// Where it stands.
     Standing(Standing),
     /// The origin refused it with this line, which is without its end.
@@ -54,7 +54,7 @@ pub enum Asked {
 /// # Errors
 ///
 /// `BadAnswer` if what came isn't an answer to that; `Memory`.
-pub fn ask<P: Link>(alloc: Global, names: &Names<'_>, link: &mut P) -> Result<Asked, PushFault>
+pub fn ask<P: Link>(alloc: Global, names: &Names<'_>, link: &mut P) -> Result<StandingAnswer, PushFault>
     ensures asked { IfOk result (IsAskedSo (messages.question (named names.now)) (link_value P.written P.inward P.failures link.old) (link_value P.written P.inward P.failures link.new)) }
     ensures own { IfErr result IsOwn }
     ensures unanswered { IsErrOf result PushFault.BadAnswer
@@ -63,10 +63,10 @@ pub fn ask<P: Link>(alloc: Global, names: &Names<'_>, link: &mut P) -> Result<As
 {
     let text = question(alloc, names)?;
     match exchange(alloc, link, &text)? {
-        Sent::Answered(Answer::Standing(standing)) => Ok(Asked::Standing(standing)),
-        Sent::Answered(Answer::Refused(line)) => Ok(Asked::Refused(line)),
+        Sent::Answered(Answer::Standing(standing)) => Ok(StandingAnswer::Standing(standing)),
+        Sent::Answered(Answer::Refused(line)) => Ok(StandingAnswer::Refused(line)),
         Sent::Answered(Answer::Accepted { .. }) => Err(PushFault::BadAnswer),
-        Sent::Lost => Ok(Asked::Lost),
+        Sent::Lost => Ok(StandingAnswer::Lost),
     }
 }
 

@@ -11,7 +11,7 @@ ghost use Rattle.ll_push.specs.Publishing.{Ahead, told_ahead};
 ghost use Rattle.ll_push.specs.declared.fault.PushFault.{PushFault};
 
 use crate::calendar::Calendar;
-use crate::connection::{Asked, ask};
+use crate::connection::{StandingAnswer, ask};
 use crate::fault::PushFault;
 use crate::publication::{Publication, Step};
 use crate::target::Target;
@@ -163,9 +163,9 @@ impl Publisher {
         ensures connected { IfErr result (λ fault. fault ≢ PushFault.Connect) }
     {
         let standing = match ask(alloc, &target.names, link)? {
-            Asked::Standing(standing) => standing,
-            Asked::Refused(line) => return Ok(Step::Refused(line)),
-            Asked::Lost => return Ok(Step::Gone { accepted: false }),
+            StandingAnswer::Standing(standing) => standing,
+            StandingAnswer::Refused(line) => return Ok(Step::Refused(line)),
+            StandingAnswer::Lost => return Ok(Step::Gone { accepted: false }),
         };
         self.place(alloc, target, &standing)?;
         watch.stands(&standing);

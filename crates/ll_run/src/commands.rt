@@ -12,7 +12,7 @@ use ll_command::{
 };
 use ll_device::{CountedReader, CountedWriter};
 use ll_origins::Job;
-use ll_push::Ending as Published;
+use ll_push::Ending;
 use ll_socket::Address;
 use std::alloc::Global;
 use std::fs::File;
@@ -24,7 +24,7 @@ use std::{fs, io};
 const ORIGINS: usize = 4;
 
 /// How a command ended, or what is left of it for `main` to do.
-pub enum Ending {
+pub enum Exit {
     Done,
     /// A record isn't right: how is written to standard output.
     BadRecord,
@@ -37,12 +37,12 @@ pub enum Ending {
 }
 
 /// Does what the program was called to do.
-pub fn called(rt: &HostRuntime) -> Result<Ending, Fault> {
+pub fn called(rt: &HostRuntime) -> Result<Exit, Fault> {
     let words = words(rt)?;
     match Command::of(&words)? {
         Command::Replay => {
             replay::<Brand, Brand>(rt, Blank::new(2), Blank::new(2))?;
-            Ok(Ending::Done)
+            Ok(Exit::Done)
         }
         Command::Apply { base, delta } => apply(rt, base.as_str(), delta.as_str()),
         Command::Check(record) => check::<Brand>(rt, record, Blank::new(2)),
@@ -57,9 +57,9 @@ pub fn called(rt: &HostRuntime) -> Result<Ending, Fault> {
         }
         Command::Version => {
             write_version(&mut rt.stdout())?;
-            Ok(Ending::Done)
+            Ok(Exit::Done)
         }
-        Command::Serve(settings) => Ok(Ending::Serve(read_file(rt, settings.as_str())?)),
+        Command::Serve(settings) => Ok(Exit::Serve(read_file(rt, settings.as_str())?)),
         Command::Push {
             address,
             channel,
@@ -71,15 +71,15 @@ pub fn called(rt: &HostRuntime) -> Result<Ending, Fault> {
 }
 
 /// Writes the playlist that results from applying the delta update in the file `delta` to the one in the file `base`.
-fn apply(rt: &HostRuntime, base: &str, delta: &str) -> Result<Ending, Fault> {
+fn apply(rt: &HostRuntime, base: &str, delta: &str) -> Result<Exit, Fault> {
     let base = read_file(rt, base)?;
     let delta = read_file(rt, delta)?;
     write_applied(rt.alloc(), &base, &delta, &mut rt.stdout())?;
-    Ok(Ending::Done)
+    Ok(Exit::Done)
 }
 
 /// Writes how many entries the record in a file has, or how it isn't right.
-fn check<L: Ledger>(rt: &HostRuntime, path: &Text, reads: Blank) -> Result<Ending, Fault>
+fn check<L: Ledger>(rt: &HostRuntime, path: &Text, reads: Blank) -> Result<Exit, Fault>
     requires name { reads.name ≡ L.name }
     requires parts { reads.parts ≡ L.parts }
     requires two { reads.parts ≡ 2 }
@@ -95,7 +95,7 @@ fn upgrade<L: Ledger, M: Ledger>(
     path: &Text,
     reads: Blank,
     further: Blank,
-) -> Result<Ending, Fault>
+) -> Result<Exit, Fault>
     requires name { reads.name ≡ L.name }
     requires parts { reads.parts ≡ L.parts }
     requires two { reads.parts ≡ 2 }
@@ -110,7 +110,7 @@ fn upgrade<L: Ledger, M: Ledger>(
 }
 
 /// Writes a summary of the record in a file, or how it isn't right.
-fn summarize<L: Ledger>(rt: &HostRuntime, path: &Text, reads: Blank) -> Result<Ending, Fault>
+fn summarize<L: Ledger>(rt: &HostRuntime, path: &Text, reads: Blank) -> Result<Exit, Fault>
     requires name { reads.name ≡ L.name }
     requires parts { reads.parts ≡ L.parts }
     requires two { reads.parts ≡ 2 }
@@ -126,7 +126,7 @@ fn explain<L: Ledger>(
     path: &Text,
     entry: u64,
     reads: Blank,
-) -> Result<Ending, Fault>
+) -> Result<Exit, Fault>
     requires name { reads.name ≡ L.name }
     requires parts { reads.parts ≡ L.parts }
     requires two { reads.parts ≡ 2 }
@@ -153,11 +153,11 @@ fn open<L: Ledger>(
 }
 
 /// Returns the ending for a record that is `right`, or isn't.
-fn ending_of(right: bool) -> Ending {
+fn ending_of(right: bool) -> Exit {
     if right {
-        Ending::Done
+        Exit::Done
     } else {
-        Ending::BadRecord
+        Exit::BadRecord
     }
 }
 
@@ -188,16 +188,16 @@ fn job_of(
 }
 
 /// Publishes what an encoder writes to standard input, or leaves that to `main` if there are several addresses.
-fn publish_input(rt: &HostRuntime, job: Job) -> Result<Ending, Fault> {
+fn publish_input(rt: &HostRuntime, job: Job) -> Result<Exit, Fault> {
     if job.addresses.len() > 1 {
-        return Ok(Ending::Push(job));
+        return Ok(Exit::Push(job));
     }
     let Some(address) = job.addresses.first() else {
         return Err(Fault::Usage);
     };
     match publish::<Brand, Brand>(rt, address, &job, Blank::new(2), Blank::new(2))? {
-        Published::Whole => Ok(Ending::Done),
-        Published::Refused(answer) => Ok(Ending::Refused(answer)),
+        Ending::Whole => Ok(Exit::Done),
+        Ending::Refused(answer) => Ok(Exit::Refused(answer)),
     }
 }
 

@@ -7,5 +7,5 @@ mod multivariant;
 mod push;
 mod words;
 
-pub use commands::{Ending, called};
+pub use commands::{Exit, called};
 pub use push::publish_job;

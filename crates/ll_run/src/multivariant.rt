@@ -2,7 +2,7 @@
 use crate::commands::read_file;
 use ll_attr::{Text, cut};
 use ll_command::{Fault, write_multivariant};
-use ll_multivariant::Source;
+use ll_multivariant::NamedSection;
 use std::alloc::AllocError;
 
 /// Writes the Multivariant Playlist of the channel with the record in the file `record`, or how the record isn't right. Each of `words` is the
@@ -20,13 +20,13 @@ pub(crate) fn multivariant(rt: &HostRuntime, record: &str, words: &[Text]) -> Re
 }
 
 /// Reads the file that `word` names for a rendition. A word without `=` is wrong usage.
-fn read_source(rt: &HostRuntime, word: &str) -> Result<Source, Fault> {
+fn read_source(rt: &HostRuntime, word: &str) -> Result<NamedSection, Fault> {
     let Some((name, path)) = cut(word, '=') else {
         return Err(Fault::Usage);
     };
     let init = read_file(rt, path)?;
     match Text::from_str(rt.alloc(), name) {
-        Ok(name) => Ok(Source { name, init }),
+        Ok(name) => Ok(NamedSection { name, init }),
         Err(AllocError) => Err(Fault::Memory),
     }
 }

@@ -4,7 +4,7 @@ use Rattle.std.specs.Option.{unwrap_or}
 use Rattle.ll_runs.specs.declared.lengths.Lengths.{Lengths}
 use Rattle.ll_runs.specs.declared.times.Cut.{Cut}
 use Rattle.ll_runs.specs.declared.times.Cut.TheVariants as cut
-use Rattle.ll_mp4.specs.declared.timing.Moment.{Moment}
+use Rattle.ll_mp4.specs.declared.timing.DecodeTime.{DecodeTime}
 use Rattle.ll_runs.specs.declared.times.Judged.{Judged}
 use Rattle.ll_runs.specs.declared.times.Next.{Next}
 use Rattle.ll_runs.specs.declared.times.Next.TheVariants.{Over, Back, At}
@@ -109,13 +109,13 @@ place_of Over = 0
 place_of (Back tick) = tick
 place_of (At tick) = tick
 
--- ---- moments between two fragments
+-- ---- decode times between two fragments
 
 abbrev pub apart : ℕ → ℕ → ℕ
 apart a b = (a - b) + (b - a)
 
--- whether the moment is nearer to the second tick than to the first
-abbrev pub is_nearer : ℕ → ℕ → ℕ → Option Moment → Bool
+-- whether the decode time is nearer to the second tick than to the first
+abbrev pub is_nearer : ℕ → ℕ → ℕ → Option DecodeTime → Bool
 is_nearer scale first second None = false
 is_nearer scale first second (Some m) = nat_lt (apart (m.time * scale) (second * m.scale)) (apart (m.time * scale) (first * m.scale))
 

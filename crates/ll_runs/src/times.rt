@@ -5,7 +5,7 @@ ghost use Rattle.ll_runs.specs.Times.{at_tick, by_samples, is_counted, is_nearer
 ghost use Rattle.ll_runs.specs.declared.times.Next.{Next};
 
 use crate::lengths::Lengths;
-use ll_mp4::Moment;
+use ll_mp4::DecodeTime;
 
 /// The most bytes of a part.
 pub const SIZE_LIMIT: usize = 1_048_576;
@@ -254,16 +254,16 @@ pub struct Span {
 }
 
 impl Span {
-    /// Returns whether `moment` is nearer to the second tick than to the first.
-    pub fn is_nearer(&self, moment: Option<Moment>) -> bool
-        ensures { result ≡ is_nearer self.now.scale self.now.first self.now.second moment }
+    /// Returns whether `decode_time` is nearer to the second tick than to the first.
+    pub fn is_nearer(&self, decode_time: Option<DecodeTime>) -> bool
+        ensures { result ≡ is_nearer self.now.scale self.now.first self.now.second decode_time }
     {
-        let Some(moment) = moment else {
+        let Some(decode_time) = decode_time else {
             return false;
         };
-        let time = moment.time as u128 * self.scale as u128;
-        let first = self.first as u128 * moment.scale as u128;
-        let second = self.second as u128 * moment.scale as u128;
+        let time = decode_time.time as u128 * self.scale as u128;
+        let first = self.first as u128 * decode_time.scale as u128;
+        let second = self.second as u128 * decode_time.scale as u128;
         time.abs_diff(second) < time.abs_diff(first)
     }
 }

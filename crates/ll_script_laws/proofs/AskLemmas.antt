@@ -15,7 +15,7 @@ use Rattle.ll_script_rooms.specs.declared.wait.Wait.{Wait}
 use Rattle.ll_settings.specs.Settings.{Configuration}
 use Rattle.ll_verdict.specs.Full.{is_full}
 use Rattle.ll_verdict.specs.Events.{Event, Publish, Ask, Collect, Close, Clock, asks, counted}
-use Rattle.ll_verdict.specs.Verdict.{Request, at_once, held, reply, reply_of, wanted_of}
+use Rattle.ll_verdict.specs.Verdict.{Pending, at_once, held, reply, reply_of, wanted_of}
 use Rattle.ll_verdict.specs.declared.reply.Reply.{Reply}
 use Rattle.ll_verdict.specs.declared.reply.Settled.{Settled}
 use Rattle.ll_verdict.proofs.ListLemmas.{Each, each-append, each-map}
@@ -251,7 +251,7 @@ each-find P p x (y ∷ xs) h e = by (p y) (each-find P p x xs h.1) e
     by false ih e = ih e
 
 -- a reply that is due is right for the request that waits under its ticket
-pub due-right : (cs : List Channel) (place : ℕ) (c : Channel) (want : WantValue) (r : Request) (s : Settled) → slice_get cs place ≡ Some c
+pub due-right : (cs : List Channel) (place : ℕ) (c : Channel) (want : WantValue) (r : Pending) (s : Settled) → slice_get cs place ≡ Some c
     → first_due c.settings c.events ≡ Some r → reply c.settings c.events r ≡ Some s → IsMade cs want place r.ticket → IsAnswer cs want (player.Reply (reply_of s))
 due-right cs place c want r s at due told made =
     let here : made.channel ≡ c = some_is made.channel c (sym made.named.there ∙ at) in

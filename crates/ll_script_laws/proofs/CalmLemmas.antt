@@ -8,7 +8,7 @@ use Rattle.ll_settings.specs.Settings.{Configuration}
 use Rattle.ll_item.specs.declared.item.Item.{Item}
 use Rattle.ll_verdict.specs.Events.{Event, Publish, Ask, Collect, Close, Clock, items, later, taken, time}
 use Rattle.ll_verdict.specs.State.{State, answer_of, new_slots, next, settle, slot_by, slot_of, state_of, stays, waiting_in}
-use Rattle.ll_verdict.specs.Verdict.{Request, is_there, reply_by, reply_with, wanted_of}
+use Rattle.ll_verdict.specs.Verdict.{Pending, is_there, reply_by, reply_with, wanted_of}
 use Rattle.ll_verdict.specs.declared.entry.Slot.{Slot}
 use Rattle.ll_verdict.specs.declared.reply.Reply.{Reply}
 use Rattle.ll_verdict.specs.declared.reply.Settled.{Settled}
@@ -190,11 +190,11 @@ module _ (c : Channel) (low : 1 ≤ c.settings.target) where
 pub silent-calm : (n : ℕ) (c : Channel) (e : Event) → IsSilent e → IsCalm n c → IsCalm n (with_event e c)
 silent-calm n c e m h = record { low = h.low; few = still-calm c h.low n e m h.few }
 
-due-any : (c : Channel) (r : Request) → first_due c.settings c.events ≡ Some r → list_any (is_ready_at r.ticket) (state_of c.settings c.events).slots ≡ true
+due-any : (c : Channel) (r : Pending) → first_due c.settings c.events ≡ Some r → list_any (is_ready_at r.ticket) (state_of c.settings c.events).slots ≡ true
 due-any c r due =
     found-any settled_in (is_ready_at r.ticket) (state_of c.settings c.events).slots (ap is_some (reply_is c.settings c.events r due) ∙ due_told c r due)
 
-pub told-calm : (n : ℕ) (c : Channel) (r : Request) → first_due c.settings c.events ≡ Some r → IsCalm (n + 1) c → IsCalm n (with_event (Collect r.ticket) c)
+pub told-calm : (n : ℕ) (c : Channel) (r : Pending) → first_due c.settings c.events ≡ Some r → IsCalm (n + 1) c → IsCalm n (with_event (Collect r.ticket) c)
 told-calm n c r due h = record {
   low = h.low;
   few = omega (
@@ -209,7 +209,7 @@ told-calm n c r due h = record {
 pub calm-none : (c : Channel) → IsCalm 0 c → first_due c.settings c.events ≡ None
 calm-none c h = by (first_due c.settings c.events) refl
   where
-    by : (o : Option Request) → first_due c.settings c.events ≡ o → o ≡ None
+    by : (o : Option Pending) → first_due c.settings c.events ≡ o → o ≡ None
     by None e = refl
     by (Some r) e =
         absurd (omega (arith, one_fewer (now_settled c h.low) r.ticket (state_of c.settings c.events).slots (same_slots c h.low) (due-any c r e), h.few))

@@ -14,7 +14,7 @@ use Rattle.ll_script_rooms.specs.declared.wait.Wait.{Wait}
 use Rattle.ll_script.specs.declared.act.Act.{Act}
 use Rattle.ll_script.specs.declared.act.Act.TheVariants.{Declare, Offer, At, Refuse, Ask, Answer, Close, Clock, RefuseClock, Bytes, Drop}
 use Rattle.ll_verdict.specs.Events.{Collect, asks}
-use Rattle.ll_verdict.specs.Verdict.{Request, reply, reply_of, at_once, held}
+use Rattle.ll_verdict.specs.Verdict.{Pending, reply, reply_of, at_once, held}
 use Rattle.ll_verdict.specs.declared.reply.Reply.{Reply}
 use Rattle.ll_verdict.specs.declared.reply.Settled.{Settled}
 use Rattle.ll_script_rooms.specs.World as rooms
@@ -158,30 +158,30 @@ own_gone n all w i t x h e is = by (waiting_of n (without i t w.waits)) (session
     by k (Some (Some s)) e = omega (arith, e, few_out s.out)
 
 -- the rooms after a reply was handed out
-abbrev pub told_in : World → ℕ → Channel → Request → Wait → Settled → World
+abbrev pub told_in : World → ℕ → Channel → Pending → Wait → Settled → World
 told_in w place c r x s = waits_less (told (happens w place c (Collect r.ticket)) x.owner (Some s)) place r.ticket
 
 -- what happens if the first reply that is due at a place is handed out
 pub data Ticks (w : World) (place : ℕ) (v : World) : Type 0 where
   Nothing : ((c : Channel) → slice_get w.channels place ≡ Some c → first_due c.settings c.events ≡ None) → v ≡ w → Ticks w place v
-  Tells : (c : Channel) (r : Request) (x : Wait) (s : Settled) → slice_get w.channels place ≡ Some c → first_due c.settings c.events ≡ Some r
+  Tells : (c : Channel) (r : Pending) (x : Wait) (s : Settled) → slice_get w.channels place ≡ Some c → first_due c.settings c.events ≡ Some r
       → under place r.ticket w.waits ≡ Some x → reply c.settings c.events r ≡ Some s → v ≡ told_in w place c r x s → Ticks w place v
 
 pub ticks : (w : World) (place : ℕ) → IsOpen w → Ticks w place (rooms.next_reply place w)
 ticks w place tied = at (slice_get w.channels place) refl
   where
-    told_by : (c : Channel) (r : Request) (x : Wait) (o : Option Settled) → slice_get w.channels place ≡ Some c → first_due c.settings c.events ≡ Some r
+    told_by : (c : Channel) (r : Pending) (x : Wait) (o : Option Settled) → slice_get w.channels place ≡ Some c → first_due c.settings c.events ≡ Some r
         → under place r.ticket w.waits ≡ Some x → reply c.settings c.events r ≡ o
         → Ticks w place (waits_less (told (happens w place c (Collect r.ticket)) x.owner o) place r.ticket)
     told_by c r x None at is e none = let never : false ≡ true = ap is_some (sym none) ∙ due_told c r is in absurd (cc)
     told_by c r x (Some s) at is e told = Tells c r x s at is e told refl
 
-    found : (c : Channel) (r : Request) (o : Option Wait) → slice_get w.channels place ≡ Some c → first_due c.settings c.events ≡ Some r
+    found : (c : Channel) (r : Pending) (o : Option Wait) → slice_get w.channels place ≡ Some c → first_due c.settings c.events ≡ Some r
         → under place r.ticket w.waits ≡ o → Ticks w place (told_to w place c r o)
     found c r None at is e = let never : false ≡ true = ap is_some (sym e) ∙ due_waits w place c r tied at is in absurd (cc)
     found c r (Some x) at is e = told_by c r x (reply c.settings c.events r) at is e refl
 
-    by : (c : Channel) (o : Option Request) → slice_get w.channels place ≡ Some c → first_due c.settings c.events ≡ o → Ticks w place (next_reply_of w place c o)
+    by : (c : Channel) (o : Option Pending) → slice_get w.channels place ≡ Some c → first_due c.settings c.events ≡ o → Ticks w place (next_reply_of w place c o)
     by c None at is = Nothing (λ d there. ap (λ (c : Channel). first_due c.settings c.events) (some_is d c (sym there ∙ at)) ∙ is) refl
     by c (Some r) at is = found c r (under place r.ticket w.waits) at is refl
 

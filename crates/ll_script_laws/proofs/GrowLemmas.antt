@@ -5,7 +5,7 @@ use Rattle.ll_settings.specs.Settings.{Configuration}
 use Rattle.ll_settings.specs.Channels.{channel_of_name}
 use Rattle.ll_directive.specs.Targets.{WantValue}
 use Rattle.ll_verdict.specs.Events.{Event, Ask, Step, asks}
-use Rattle.ll_verdict.specs.Verdict.{Request, at_once, decided, held, reply, reply_at_step, reply_of, wanted_of}
+use Rattle.ll_verdict.specs.Verdict.{Pending, at_once, decided, held, reply, reply_at_step, reply_of, wanted_of}
 use Rattle.ll_verdict.specs.declared.reply.Reply.{Reply}
 use Rattle.ll_verdict.specs.declared.reply.Settled.{Settled}
 use Rattle.ll_verdict.specs.declared.wanted.Wanted.{Wanted}
@@ -78,7 +78,7 @@ declare-grows cs d = record {
 
 -- ---- a verdict stays
 
-reply-stays : (c : Configuration) (events more : List Event) (r : Request) (s : Settled) → reply c events r ≡ Some s → reply c (events ++ more) r ≡ Some s
+reply-stays : (c : Configuration) (events more : List Event) (r : Pending) (s : Settled) → reply c events r ≡ Some s → reply c (events ++ more) r ≡ Some s
 reply-stays c events more r s h = by (decided c events r) refl h
   where
     by : (o : Option Step) → decided c events r ≡ o → option_and_then (reply_at_step c r) o ≡ Some s → reply c (events ++ more) r ≡ Some s
@@ -89,7 +89,7 @@ pub verdict-stays : (c : Configuration) (events more before : List Event) (want 
     → verdict c (events ++ more) before want ≡ Some a
 verdict-stays c events more before want a h = at (at_once c (held c before) before want) (wanted_of c want) h
   where
-    by : (r : Request) (o : Option Settled) → reply c events r ≡ o → option_map reply_of o ≡ Some a → option_map reply_of (reply c (events ++ more) r) ≡ Some a
+    by : (r : Pending) (o : Option Settled) → reply c events r ≡ o → option_map reply_of o ≡ Some a → option_map reply_of (reply c (events ++ more) r) ≡ Some a
     by r None e h = absurd (none_some a h)
     by r (Some s) e h = ap (option_map reply_of) (reply-stays c events more r s e) ∙ h
 
@@ -97,7 +97,7 @@ verdict-stays c events more before want a h = at (at_once c (held c before) befo
     at (Some x) w h = h
     at None None h = h
     at None (Some w) h =
-        let r : Request = record { ticket = asks before + 1; wanted = w; before = before } in
+        let r : Pending = record { ticket = asks before + 1; wanted = w; before = before } in
         by r (reply c events r) refl h
 
 -- ---- answers

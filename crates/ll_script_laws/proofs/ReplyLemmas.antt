@@ -8,7 +8,7 @@ use Rattle.ll_settings.specs.Settings.{rendition_named, Configuration}
 use Rattle.ll_item.specs.declared.item.Item.{Item}
 use Rattle.ll_pieces.specs.View.{Paged}
 use Rattle.ll_verdict.specs.Events.{Event, Publish, Ask, Collect, Close, Clock, Step, asks, items, until}
-use Rattle.ll_verdict.specs.Verdict.{Request, at_once, closes, comes_after, decided, far, held, held_by, hold_by, is_busy, is_close, is_hinted, is_there, media_now, media_of, media_or, media_or_none, page_of, playlist_now, reply, reply_at_step, reply_by, reply_of, settles, waiting, wanted_at, wanted_of}
+use Rattle.ll_verdict.specs.Verdict.{Pending, at_once, closes, comes_after, decided, far, held, held_by, hold_by, is_busy, is_close, is_hinted, is_there, media_now, media_of, media_or, media_or_none, page_of, playlist_now, reply, reply_at_step, reply_by, reply_of, settles, waiting, wanted_at, wanted_of}
 use Rattle.ll_verdict.specs.declared.reply.Reply.{Reply}
 use Rattle.ll_verdict.specs.declared.reply.Reply.TheVariants.{Busy, TooFar}
 use Rattle.ll_verdict.specs.declared.reply.Reply.TheVariants as now
@@ -74,14 +74,14 @@ at-once c earlier events want page h = text_of c (waiting c events earlier) even
 -- ---- later
 
 -- a request that had to wait is an event of the channel
-abbrev pub IsAsked : Configuration → List Event → Request → Type 0
+abbrev pub IsAsked : Configuration → List Event → Pending → Type 0
 IsAsked c es r =
     (want : WantValue) × (rest : List Event) × (es ≡ r.before ++ Ask want ∷ rest) × (wanted_of c want ≡ Some r.wanted) × (r.ticket ≡ asks r.before + 1)
 
-still_asked : (c : Configuration) (es : List Event) (e : Event) (r : Request) → IsAsked c es r → IsAsked c (es ++ e ∷ []) r
+still_asked : (c : Configuration) (es : List Event) (e : Event) (r : Pending) → IsAsked c es r → IsAsked c (es ++ e ∷ []) r
 still_asked c es e r h = (h.0, h.1 ++ e ∷ [], ap (λ xs. xs ++ e ∷ []) h.2 ∙ append_assoc r.before (Ask h.0 ∷ h.1) (e ∷ []), h.3, h.4)
 
-kept_asked : (c : Configuration) (es : List Event) (e : Event) (rs : List Request) → Each (IsAsked c es) rs → Each (IsAsked c (es ++ e ∷ [])) rs
+kept_asked : (c : Configuration) (es : List Event) (e : Event) (rs : List Pending) → Each (IsAsked c es) rs → Each (IsAsked c (es ++ e ∷ [])) rs
 kept_asked c es e rs h = each-map (IsAsked c es) (IsAsked c (es ++ e ∷ [])) (still_asked c es e) rs h
 
 added_asked : (c : Configuration) (es : List Event) (want : WantValue) (reply : Option Reply) (o : Option Wanted) → wanted_of c want ≡ o
@@ -90,7 +90,7 @@ added_asked c es want None (Some a) e = ((want, [], refl, e, refl), tt)
 added_asked c es want None None e = tt
 added_asked c es want (Some reply) o e = tt
 
-hold_asked : (c : Configuration) (es : List Event) (e : Event) (rs : List Request) → Each (IsAsked c es) rs → Each (IsAsked c (es ++ e ∷ [])) (hold_by c rs es e)
+hold_asked : (c : Configuration) (es : List Event) (e : Event) (rs : List Pending) → Each (IsAsked c es) rs → Each (IsAsked c (es ++ e ∷ [])) (hold_by c rs es e)
 hold_asked c es (Publish item) rs h = kept_asked c es (Publish item) rs h
 hold_asked c es (Ask want) rs h =
     each-append (IsAsked c (es ++ Ask want ∷ [])) rs (held_by (at_once c rs es want) (asks es + 1) es (wanted_of c want)) (kept_asked c es (Ask want) rs h)
@@ -119,7 +119,7 @@ after_by : (x y z : Bool) → (x && y || x && z) ≡ true → x ≡ true
 after_by true y z h = refl
 after_by false y z h = cc
 
-comes-after : (c : Configuration) (r : Request) (s : Step) → (settles c r s || closes r s) ≡ true → length r.before < length (until s)
+comes-after : (c : Configuration) (r : Pending) (s : Step) → (settles c r s || closes r s) ≡ true → length r.before < length (until s)
 comes-after c r s h =
     let after : nat_lt (length r.before) (length s.before) ≡ true = after_by (comes_after r s) _ (is_close r.ticket s.event) h in
     let lt : length r.before < length s.before = grind (arith, nat_tests) in
@@ -133,7 +133,7 @@ settled_by false true false n a (Some bytes) p page h = cc
 settled_by false true false n a None p page h = cc
 settled_by false false z n a o p page h = cc
 
-by_decision : (c : Configuration) (events : List Event) (r : Request) (page : Paged) (o : Option Step) → decided c events r ≡ o → IsAsked c events r
+by_decision : (c : Configuration) (events : List Event) (r : Pending) (page : Paged) (o : Option Step) → decided c events r ≡ o → IsAsked c events r
     → option_and_then (reply_at_step c r) o ≡ Some (Text page)
     → (want : WantValue) × (between : List Event) × (later : List Event) × (events ≡ (r.before ++ Ask want ∷ between) ++ later)
     × (wanted_of c want ≡ Some r.wanted) × IsWanted c (r.before ++ Ask want ∷ between) r.wanted page
@@ -186,7 +186,7 @@ verdicts c before rest want page h = by (at_once c (held c before) before want) 
         )
     by None None e f h = cc
     by None (Some a) e f h =
-        let r : Request = record { ticket = asks before + 1; wanted = a; before = before } in
+        let r : Pending = record { ticket = asks before + 1; wanted = a; before = before } in
         let events = before ++ Ask want ∷ rest in
         let t = by_decision c events r page (decided c events r) refl (want, rest, refl, f, refl) (text-settled page (reply c events r) h) in
         (a, Ask t.0 ∷ t.1, t.2, t.3, f, t.5)

@@ -19,7 +19,7 @@ use Rattle.ll_script_rooms.specs.declared.wait.Wait.{Wait}
 use Rattle.ll_session.specs.Past.{Past, Send, before_any, called, past}
 use Rattle.ll_session.specs.Talk.{SessionValue, fresh}
 use Rattle.ll_verdict.specs.Events.{Collect}
-use Rattle.ll_verdict.specs.Verdict.{Request, reply, reply_of}
+use Rattle.ll_verdict.specs.Verdict.{Pending, reply, reply_of}
 use Rattle.ll_verdict.specs.declared.reply.Reply as verdict
 use Rattle.ll_verdict.specs.declared.reply.Settled.{Settled}
 use Rattle.ll_wire.specs.declared.answer.Answer.{Answer}
@@ -364,7 +364,7 @@ pub next_reply-holds : (came : ℕ → List ℕ) (un : ℕ → List WantValue) (
     → HoldsSome came (next_reply place w lucks)
 next_reply-holds came un place w lucks met h = by (rooms.next_reply place w.rooms) (due.ticks w.rooms place met.met.rooms) (next_reply-open w.rooms place met.met.rooms)
   where
-    told_by : (c : Channel) (r : Request) (x : Wait) (s : Settled) (o : Owner) → slice_get w.rooms.channels place ≡ Some c → first_due c.settings c.events ≡ Some r
+    told_by : (c : Channel) (r : Pending) (x : Wait) (s : Settled) (o : Owner) → slice_get w.rooms.channels place ≡ Some c → first_due c.settings c.events ≡ Some r
         → under place r.ticket w.rooms.waits ≡ Some x → reply c.settings c.events r ≡ Some s → x.owner ≡ o → IsOpen (due.told_in w.rooms place c r x s)
         → HoldsSome came (passed_to lucks o (reply_of s) (heard w (due.told_in w.rooms place c r x s)))
     told_by c r x s o at is found told e tied = by o e

@@ -22,7 +22,7 @@ use Rattle.ll_connection.specs.Turn.{Connections, session_of}
 use Rattle.ll_connection.specs.Visit.{Luck}
 use Rattle.ll_verdict.specs.Events.{Event, Ask, items}
 use Rattle.ll_verdict.specs.State.{state_of}
-use Rattle.ll_verdict.specs.Verdict.{Request, at_once, held, reply, wanted_of}
+use Rattle.ll_verdict.specs.Verdict.{Pending, at_once, held, reply, wanted_of}
 use Rattle.ll_verdict.specs.declared.entry.Slot.{Slot}
 use Rattle.ll_verdict.specs.declared.reply.Reply.TheVariants as now
 use Rattle.ll_verdict.specs.declared.reply.Settled.TheVariants.{Text}
@@ -64,13 +64,13 @@ pub record IsWanted (c : Configuration) (events : List Event) (a : Wanted) (page
 
 -- a text that a request gets at once is the playlist that it asks for, of the moment of the request
 abbrev pub AtOnceLaw : Type 0
-AtOnceLaw = (c : Configuration) (earlier : List Request) (events : List Event) (want : WantValue) (page : Paged)
+AtOnceLaw = (c : Configuration) (earlier : List Pending) (events : List Event) (want : WantValue) (page : Paged)
     → at_once c earlier events want ≡ Some (now.Text page)
     → (a : Wanted) × (wanted_of c want ≡ Some a) × IsWanted c events a page
 
 -- A request that had to wait is one of the channel's events. A text that it gets is the playlist that it asks for, of a moment after it.
 abbrev pub LaterLaw : Type 0
-LaterLaw = (c : Configuration) (events : List Event) (place : ℕ) (r : Request) (page : Paged)
+LaterLaw = (c : Configuration) (events : List Event) (place : ℕ) (r : Pending) (page : Paged)
     → slice_get (held c events) place ≡ Some r → reply c events r ≡ Some (Text page)
     → (want : WantValue) × (between : List Event) × (later : List Event) × (events ≡ (r.before ++ Ask want ∷ between) ++ later)
     × (wanted_of c want ≡ Some r.wanted) × IsWanted c (r.before ++ Ask want ∷ between) r.wanted page
@@ -104,7 +104,7 @@ IsThere (Connection n) all = (s : SessionValue) × (session_of n all ≡ Some (S
 
 -- a reply that is due finds the request that waits for it, and its owner
 abbrev pub FindsAsker : Script → Type 0
-FindsAsker w = (place : ℕ) (channel : Channel) (r : Request)
+FindsAsker w = (place : ℕ) (channel : Channel) (r : Pending)
     → slice_get w.rooms.channels place ≡ Some channel → first_due channel.settings channel.events ≡ Some r
     → (x : Wait) × (under place r.ticket w.rooms.waits ≡ Some x) × IsThere x.owner w.connections
 

@@ -10,7 +10,7 @@ use Rattle.ll_settings.specs.Settings.{Configuration}
 use Rattle.ll_item.specs.declared.item.Item.{Item}
 use Rattle.ll_verdict.specs.Events.{Event, Publish, Ask, Collect, Close, Clock}
 use Rattle.ll_verdict.specs.State.{slot_of, state_of}
-use Rattle.ll_verdict.specs.Verdict.{Request, at_once, held, reply_of}
+use Rattle.ll_verdict.specs.Verdict.{Pending, at_once, held, reply_of}
 use Rattle.ll_rendition.specs.declared.fault.PublishFault.{PublishFault}
 use Rattle.ll_verdict.specs.declared.reply.Reply.{Reply}
 use Rattle.ll_verdict.specs.declared.reply.Settled.{Settled}
@@ -291,14 +291,14 @@ handed_by p o false b m e = absurd (none_some m.value (sym (ap value_in e)))
 handed_is : (h : RoomValue) (p : Ticket) (m : StampedValue Reply) → Got m ≡ room.collected h p → option_map reply_of (reply_at p.ticket h.slots) ≡ Some m.value
 handed_is h p m e = handed_by p (reply_at p.ticket h.slots) (p.channel == h.channel) (room.is_open h p.ticket) m e
 
-due_by : (i t : ℕ) (c : Channel) (h : RoomValue) (o : Option Request) → h ≡ home_at i c → first_ready h.slots ≡ Some t → first_due c.settings c.events ≡ o
-    → (P : Option Request → Type 0) → ((r : Request) → first_due c.settings c.events ≡ Some r → r.ticket ≡ t → P (Some r)) → P o
+due_by : (i t : ℕ) (c : Channel) (h : RoomValue) (o : Option Pending) → h ≡ home_at i c → first_ready h.slots ≡ Some t → first_due c.settings c.events ≡ o
+    → (P : Option Pending → Type 0) → ((r : Pending) → first_due c.settings c.events ≡ Some r → r.ticket ≡ t → P (Some r)) → P o
 due_by i t c h None is ready e P f =
     absurd (none_some t (sym (ap (λ o. option_map ticket_in (option_map (slot_of c.settings c.events) o)) e) ∙ sym (first_is c.settings c.events) ∙ ap (λ (h : RoomValue). first_ready h.slots) (sym is) ∙ ready))
 due_by i t c h (Some r) is ready e P f =
     f r e (some_is r.ticket t (sym (ap (λ o. option_map ticket_in (option_map (slot_of c.settings c.events) o)) e) ∙ sym (first_is c.settings c.events) ∙ ap (λ (h : RoomValue). first_ready h.slots) (sym is) ∙ ready))
 
-told_there : (old : Kept) (w : World) (i t : ℕ) (c : Channel) (h h2 : RoomValue) (x : Wait) (s : Settled) (r : Request) → old ≡ kept_world w → h ≡ home_at i c → IsSame h h2 → GoesOn h h2 (Collect t)
+told_there : (old : Kept) (w : World) (i t : ℕ) (c : Channel) (h h2 : RoomValue) (x : Wait) (s : Settled) (r : Pending) → old ≡ kept_world w → h ≡ home_at i c → IsSame h h2 → GoesOn h h2 (Collect t)
     → slice_get w.channels i ≡ Some c → under i t old.waits ≡ Some x → reply_at t h.slots ≡ Some s → first_due c.settings c.events ≡ Some r → r.ticket ≡ t
     → Leads (record { rooms = slice_set old.rooms i h2; waits = without i t old.waits; events = old.events }) (Some (Replied x.owner (reply_of s))) w (told_to w i c r (under i r.ticket w.waits))
 told_there old w i t c h h2 x s r e is same goes here found there due k =
@@ -322,7 +322,7 @@ ticked old w i t h h2 p m x e at same goes pt ready found handed =
     (λ o. Leads (record { rooms = slice_set old.rooms i h2; waits = without i t old.waits; events = old.events }) (Some (Replied x.owner m.value)) w (next_reply_of w i c o))
     (λ r due k. by_reply c there is r due k (reply_at t h.slots) refl (ap (λ n. option_map reply_of (reply_at n h.slots)) (sym pt) ∙ handed_is h p m handed)))
   where
-    by_reply : (c : Channel) → slice_get w.channels i ≡ Some c → h ≡ home_at i c → (r : Request) → first_due c.settings c.events ≡ Some r → r.ticket ≡ t → (o : Option Settled) → reply_at t h.slots ≡ o → option_map reply_of o ≡ Some m.value
+    by_reply : (c : Channel) → slice_get w.channels i ≡ Some c → h ≡ home_at i c → (r : Pending) → first_due c.settings c.events ≡ Some r → r.ticket ≡ t → (o : Option Settled) → reply_at t h.slots ≡ o → option_map reply_of o ≡ Some m.value
         → Leads (record { rooms = slice_set old.rooms i h2; waits = without i t old.waits; events = old.events }) (Some (Replied x.owner m.value)) w (told_to w i c r (under i r.ticket w.waits))
     by_reply c here is r due k None there v = absurd (none_some m.value v)
     by_reply c here is r due k (Some s) there v =
@@ -330,7 +330,7 @@ ticked old w i t h h2 p m x e at same goes pt ready found handed =
         (some_is (reply_of s) m.value v)
         (told_there old w i t c h h2 x s r e is same (subst (λ n. GoesOn h h2 (Collect n)) pt goes) here found there due k)
 
-idle_by : (c : Configuration) (events : List Event) (o : Option Request) → first_due c events ≡ o → first_ready (state_of c events).slots ≡ None → (P : Option Request → Type 0) → P None → P o
+idle_by : (c : Configuration) (events : List Event) (o : Option Pending) → first_due c events ≡ o → first_ready (state_of c events).slots ≡ None → (P : Option Pending → Type 0) → P None → P o
 idle_by c events None e idle P p = p
 idle_by c events (Some r) e idle P p =
     absurd (none_some r.ticket (sym idle ∙ first_is c events ∙ ap (λ o. option_map ticket_in (option_map (slot_of c events) o)) e))

@@ -5,7 +5,7 @@ use Rattle.ll_verdict.specs.Waiting.{first_ready, has_ticket, is_ready, reply_at
 use Rattle.ll_settings.specs.Settings.{Configuration}
 use Rattle.ll_verdict.specs.Events.{Event}
 use Rattle.ll_verdict.specs.State.{gone, slot_of, state_of}
-use Rattle.ll_verdict.specs.Verdict.{Request, held, reply}
+use Rattle.ll_verdict.specs.Verdict.{Pending, held, reply}
 use Rattle.ll_verdict.specs.declared.entry.Slot.{Slot}
 use Rattle.ll_script_rooms.specs.World.{first_due}
 use Rattle.ll_script_rooms.proofs.TieLemmas.{none_some, same_test, some_is}
@@ -46,7 +46,7 @@ pub first_is : (c : Configuration) (es : List Event) → first_ready (state_of c
 first_is c es = ap (option_map ticket_in) (ready_is c es)
 
 -- the reply of the first request that is due
-pub reply_is : (c : Configuration) (es : List Event) (r : Request) → first_due c es ≡ Some r → reply_at r.ticket (state_of c es).slots ≡ reply c es r
+pub reply_is : (c : Configuration) (es : List Event) (r : Pending) → first_due c es ≡ Some r → reply_at r.ticket (state_of c es).slots ≡ reply c es r
 reply_is c es r h =
     ap (option_and_then settled_in)
     (find_narrow is_ready (has_ticket r.ticket) (slot_of c es r) (state_of c es).slots

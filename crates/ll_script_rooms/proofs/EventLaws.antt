@@ -8,7 +8,7 @@ use Rattle.ll_item.specs.declared.item.Item.{Item}
 use Rattle.ll_verdict.specs.Full.{is_full, refusal_after}
 use Rattle.ll_verdict.specs.declared.fault.ClockFault.{ClockFault}
 use Rattle.ll_verdict.specs.Events.{Event, Publish, Ask, Collect, Close, Clock}
-use Rattle.ll_verdict.specs.Verdict.{Request, at_once, held, reply}
+use Rattle.ll_verdict.specs.Verdict.{Pending, at_once, held, reply}
 use Rattle.ll_rendition.specs.declared.fault.PublishFault.{PublishFault}
 use Rattle.ll_verdict.specs.declared.reply.Reply.{Reply}
 use Rattle.ll_verdict.specs.declared.reply.Settled.{Settled}
@@ -72,11 +72,11 @@ module _ (Q : List Channel → Type 0) (May : Event → Type 0)
   pub next_reply-keeps : (w : World) (i : ℕ) → ((t : ℕ) → May (Collect t)) → Q w.channels → Q (next_reply i w).channels
   next_reply-keeps w i m q = at (slice_get w.channels i) refl
     where
-      by : (c : Channel) (r : Request) (o : Option Wait) → slice_get w.channels i ≡ Some c → Q (told_to w i c r o).channels
+      by : (c : Channel) (r : Pending) (o : Option Wait) → slice_get w.channels i ≡ Some c → Q (told_to w i c r o).channels
       by c r None h = q
       by c r (Some x) h = told-keeps (happens w i c (Collect r.ticket)) x.owner (reply c.settings c.events r) (keeps w.channels i c (Collect r.ticket) (m r.ticket) h q)
 
-      due : (c : Channel) (o : Option Request) → slice_get w.channels i ≡ Some c → Q (next_reply_of w i c o).channels
+      due : (c : Channel) (o : Option Pending) → slice_get w.channels i ≡ Some c → Q (next_reply_of w i c o).channels
       due c None h = q
       due c (Some r) h = by c r (under i r.ticket w.waits) h
 

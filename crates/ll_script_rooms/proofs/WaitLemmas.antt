@@ -10,7 +10,7 @@ use Rattle.ll_settings.specs.Settings.{Configuration}
 use Rattle.ll_item.specs.declared.item.Item.{Item}
 use Rattle.ll_verdict.specs.Events.{Event, Publish, Ask, Collect, Close, Clock, asks, counted, items, later, taken}
 use Rattle.ll_verdict.specs.State.{State, gone, new_slots, next, settle, slot_by, state_of, stays}
-use Rattle.ll_verdict.specs.Verdict.{Request, at_once, held, reply, reply_by, waiting, wanted_of}
+use Rattle.ll_verdict.specs.Verdict.{Pending, at_once, held, reply, reply_by, waiting, wanted_of}
 use Rattle.ll_verdict.specs.declared.entry.Slot.{Slot}
 use Rattle.ll_rendition.specs.declared.fault.PublishFault.{PublishFault}
 use Rattle.ll_verdict.specs.declared.reply.Reply.{Reply}
@@ -276,16 +276,16 @@ second true b h = h
 second false b h = cc
 
 -- its reply is decided
-pub due_told : (c : Channel) (r : Request) → first_due c.settings c.events ≡ Some r → is_some (reply c.settings c.events r) ≡ true
+pub due_told : (c : Channel) (r : Pending) → first_due c.settings c.events ≡ Some r → is_some (reply c.settings c.events r) ≡ true
 due_told c r h =
     second (not (gone c.settings c.events r)) (is_some (reply c.settings c.events r)) (find_passes (is_due c.settings c.events) r (held c.settings c.events) h)
 
 -- and is there
-due-ready : (c : Channel) (r : Request) → first_due c.settings c.events ≡ Some r → is_some (reply_at r.ticket (state_of c.settings c.events).slots) ≡ true
+due-ready : (c : Channel) (r : Pending) → first_due c.settings c.events ≡ Some r → is_some (reply_at r.ticket (state_of c.settings c.events).slots) ≡ true
 due-ready c r h = ap is_some (reply_is c.settings c.events r h) ∙ due_told c r h
 
 -- it finds the request that waits
-pub due_waits : (w : World) (i : ℕ) (c : Channel) (r : Request) → IsOpen w → slice_get w.channels i ≡ Some c → first_due c.settings c.events ≡ Some r
+pub due_waits : (w : World) (i : ℕ) (c : Channel) (r : Pending) → IsOpen w → slice_get w.channels i ≡ Some c → first_due c.settings c.events ≡ Some r
     → is_some (under i r.ticket w.waits) ≡ true
 due_waits w i c r tied h due =
     let slots = (state_of c.settings c.events).slots in
@@ -304,13 +304,13 @@ told-open w i t owner (Some s) tied = tied
 pub next_reply-open : (w : World) (i : ℕ) → IsOpen w → IsOpen (next_reply i w)
 next_reply-open w i tied = at (slice_get w.channels i) refl
   where
-    found : (c : Channel) (r : Request) (o : Option Wait) → slice_get w.channels i ≡ Some c → first_due c.settings c.events ≡ Some r → IsOpen (told_to w i c r o)
+    found : (c : Channel) (r : Pending) (o : Option Wait) → slice_get w.channels i ≡ Some c → first_due c.settings c.events ≡ Some r → IsOpen (told_to w i c r o)
     found c r None h due = tied
     found c r (Some x) h due =
         told-open (happens w i c (Collect r.ticket)) i r.ticket x.owner (reply c.settings c.events r)
         (changed_less w.channels w.waits i r.ticket c (with_event (Collect r.ticket) c) tied h (opens-collect c r.ticket (due-ready c r due)))
 
-    by : (c : Channel) (o : Option Request) → slice_get w.channels i ≡ Some c → first_due c.settings c.events ≡ o → IsOpen (next_reply_of w i c o)
+    by : (c : Channel) (o : Option Pending) → slice_get w.channels i ≡ Some c → first_due c.settings c.events ≡ o → IsOpen (next_reply_of w i c o)
     by c None h due = tied
     by c (Some r) h due = found c r (under i r.ticket w.waits) h due
 

@@ -5,7 +5,7 @@ use Rattle.ll_settings.specs.Settings.{Configuration}
 use Rattle.ll_item.specs.declared.item.Item.{Item}
 use Rattle.ll_verdict.specs.Events.{Event, Publish, Ask, Collect, Close, Clock, asks, items}
 use Rattle.ll_verdict.specs.State.{gone}
-use Rattle.ll_verdict.specs.Verdict.{Request, at_once, held, reply, reply_of}
+use Rattle.ll_verdict.specs.Verdict.{Pending, at_once, held, reply, reply_of}
 use Rattle.ll_rendition.specs.declared.fault.PublishFault.{PublishFault}
 use Rattle.ll_verdict.specs.declared.reply.Reply.{Reply}
 use Rattle.ll_verdict.specs.declared.reply.Settled.{Settled}
@@ -149,11 +149,11 @@ clock place ms w = clock_at w place ms (slice_get w.channels place)
 -- ---- replies that are due
 
 -- whether the reply of request `r` is decided, and `r` was neither collected nor closed
-abbrev pub is_due : Configuration → List Event → Request → Bool
+abbrev pub is_due : Configuration → List Event → Pending → Bool
 is_due c events r = not (gone c events r) && is_some (reply c events r)
 
 -- the first request whose reply is due
-abbrev pub first_due : Configuration → List Event → Option Request
+abbrev pub first_due : Configuration → List Event → Option Pending
 first_due c events = find (is_due c events) (held c events)
 
 abbrev pub told : World → Owner → Option Settled → World
@@ -161,12 +161,12 @@ told w owner None = w
 told w owner (Some settled) = says w (Replied owner (reply_of settled))
 
 -- the owner of request `r` gets its reply, and the request waits no longer
-abbrev pub told_to : World → ℕ → Channel → Request → Option Wait → World
+abbrev pub told_to : World → ℕ → Channel → Pending → Option Wait → World
 told_to w place channel r None = w
 told_to w place channel r (Some x) =
     waits_less (told (happens w place channel (Collect r.ticket)) x.owner (reply channel.settings channel.events r)) place r.ticket
 
-abbrev pub next_reply_of : World → ℕ → Channel → Option Request → World
+abbrev pub next_reply_of : World → ℕ → Channel → Option Pending → World
 next_reply_of w place channel None = w
 next_reply_of w place channel (Some r) = told_to w place channel r (under place r.ticket w.waits)
 

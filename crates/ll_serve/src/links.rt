@@ -8,7 +8,7 @@ use crate::serve::serve_link;
 use crossbeam_channel::{Receiver, Sender};
 use ll_device::{CountedLink, Link, Role, Source};
 use ll_hub::{Bell, Clock, Hub, HubFault, Ledgers, Pass, Sink};
-use ll_notes::{Addressed, Ending, NotedGate, Notes};
+use ll_notes::{Addressed, EndReason, NotedGate, Notes};
 use ll_service::{Gate, LinkFault, Service, seats};
 use ll_spool::Disk;
 use std::alloc::Global;
@@ -66,13 +66,13 @@ pub fn serve_links<
         notes,
         role,
     };
-    let shift = Shift {
+    let pool = WorkerPool {
         rt: service.rt,
         server: &server,
         links: from,
         open: AtomicU64::new(0),
     };
-    Ok(share_out(&shift, to, source, passes))
+    Ok(share_out(&pool, to, source, passes))
 }
 
 /// What serves the connections of workers.
@@ -106,7 +106,7 @@ impl<
 
 /// What the workers of a source share.
 #[derive(Drop)]
-struct Shift<'a, P: Drop, W, R> {
+struct WorkerPool<'a, P: Drop, W, R> {
     rt: &'a R,
     server: &'a W,
     links: Receiver<P>,
@@ -114,7 +114,7 @@ struct Shift<'a, P: Drop, W, R> {
     open: AtomicU64,
 }
 
-impl<P: Link, W, R: Wait> Shift<'_, P, W, R> {
+impl<P: Link, W, R: Wait> WorkerPool<'_, P, W, R> {
     /// Returns whether each of `started` workers has a connection to serve, or one that waits for it.
     fn is_busy(&self, started: u64) -> bool {
         self.open.load(Ordering::SeqCst) >= started
@@ -139,13 +139,13 @@ fn share_out<
     S: Source<Peer = P>,
     W: Serves<L, P> + Sync,
     R: Threads + Wait + Sync,
->(shift: &Shift<'_, P, W, R>, to: Sender<P>, source: &mut S, given: Vec<Pass<L>>) -> Vec<Pass<L>>
+>(pool: &WorkerPool<'_, P, W, R>, to: Sender<P>, source: &mut S, given: Vec<Pass<L>>) -> Vec<Pass<L>>
     ensures { length result.items ≡ length given.items }
 {
     let mut passes = given;
     let workers = passes.len() as u64;
     let seats = Mutex::new(passes.iter_mut());
-    feed(shift, to, source, &seats, workers);
+    feed(pool, to, source, &seats, workers);
     drop(seats);
     passes
 }
@@ -159,7 +159,7 @@ fn feed<
     W: Serves<L, P> + Sync,
     R: Threads + Wait + Sync,
 >(
-    shift: &Shift<'_, P, W, R>,
+    pool: &WorkerPool<'_, P, W, R>,
     to: Sender<P>,
     source: &mut S,
     seats: &Mutex<IterMut<'_, Pass<L>>>,
@@ -167,21 +167,21 @@ fn feed<
 ) {
     thread::scope(
         thread::scope_env(),
-        shift.rt,
+        pool.rt,
         |scope|
             requires { IsSync R.row × IsSync W.row × IsSync L.row × IsSend L.row × IsSend P.row }
         {
             let to = to;
             let mut started = 0;
-            for _ in shift.rt.forever() {
+            for _ in pool.rt.forever() {
                 let Some(link) = source.next() else {
                     return;
                 };
-                let lacks = started < workers && shift.is_busy(started);
-                if lacks && scope.spawn(move || work(shift, seats)).is_ok() {
+                let lacks = started < workers && pool.is_busy(started);
+                if lacks && scope.spawn(move || work(pool, seats)).is_ok() {
                     started = started.saturating_add(1);
                 }
-                shift.hand_over(&to, link, started);
+                pool.hand_over(&to, link, started);
             }
             unreachable!()
         },
@@ -191,19 +191,19 @@ fn feed<
 /// Takes a pass, and serves one connection after another, until no more come.
 // It takes its pass itself: one that was moved into the closure of a thread would be lost if the thread isn't started.
 fn work<L: Ledgers, P: Link, W: Serves<L, P>, R: Wait>(
-    shift: &Shift<'_, P, W, R>,
+    pool: &WorkerPool<'_, P, W, R>,
     seats: &Mutex<IterMut<'_, Pass<L>>>,
 ) {
-    let seat = seats.lock(shift.rt).next();
+    let seat = seats.lock(pool.rt).next();
     let Some(pass) = seat else {
         return;
     };
-    for _ in shift.rt.forever() {
-        let Ok(link) = shift.links.recv(shift.rt) else {
+    for _ in pool.rt.forever() {
+        let Ok(link) = pool.links.recv(pool.rt) else {
             return;
         };
-        shift.server.serve(link, pass);
-        shift.open.fetch_sub(1, Ordering::SeqCst);
+        pool.server.serve(link, pass);
+        pool.open.fetch_sub(1, Ordering::SeqCst);
     }
     unreachable!()
 }
@@ -256,13 +256,13 @@ fn with_gate<'a, L: Ledgers, C, G, H, K, D, B, R>(
 }
 
 /// Returns why a connection has ended; `served` is the result of serving it.
-fn ending_of(served: &Result<u64, LinkFault>) -> Ending {
+fn ending_of(served: &Result<u64, LinkFault>) -> EndReason {
     match served {
-        Ok(_) => Ending::Closed,
-        Err(LinkFault::Read) => Ending::Read,
-        Err(LinkFault::Write) => Ending::Write,
-        Err(LinkFault::Hub) => Ending::Hub,
-        Err(LinkFault::Memory) => Ending::Memory,
-        Err(LinkFault::Endless) => Ending::Endless,
+        Ok(_) => EndReason::Closed,
+        Err(LinkFault::Read) => EndReason::Read,
+        Err(LinkFault::Write) => EndReason::Write,
+        Err(LinkFault::Hub) => EndReason::Hub,
+        Err(LinkFault::Memory) => EndReason::Memory,
+        Err(LinkFault::Endless) => EndReason::Endless,
     }
 }

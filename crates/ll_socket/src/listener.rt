@@ -35,18 +35,18 @@ enum Port {
 
 /// Where a listener listens.
 #[derive(Clone, Copy)]
-pub enum Place<'a> {
+pub enum BindAddress<'a> {
     /// At an IP address and a port.
     Ip(SocketAddr),
     /// At the socket file of this path.
     Unix(&'a str),
 }
 
-impl fmt::Display for Place<'_> {
+impl fmt::Display for BindAddress<'_> {
     fn fmt<W: fmt::Write>(&self, f: &mut fmt::Formatter<W>) -> fmt::Result {
         match self {
-            Place::Ip(address) => write!(f, "{address}"),
-            Place::Unix(path) => write!(f, "unix:{path}"),
+            BindAddress::Ip(address) => write!(f, "{address}"),
+            BindAddress::Unix(path) => write!(f, "unix:{path}"),
         }
     }
 }
@@ -119,11 +119,11 @@ impl<'a, R: Net<Listener = TcpListener, Stream = TcpStream>> Listener<'a, R> {
     }
 
     /// Returns where it listens. Fails if the system doesn't return that.
-    pub fn place(&self) -> Result<Place<'_>, Failed> {
+    pub fn place(&self) -> Result<BindAddress<'_>, Failed> {
         match &self.port {
-            Port::Unix(_, path) => Ok(Place::Unix(path.as_str())),
+            Port::Unix(_, path) => Ok(BindAddress::Unix(path.as_str())),
             Port::Tcp(listener) => match listener.local_addr() {
-                Ok(address) => Ok(Place::Ip(address)),
+                Ok(address) => Ok(BindAddress::Ip(address)),
                 Err(_) => Err(Failed),
             },
         }

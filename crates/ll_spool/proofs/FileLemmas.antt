@@ -6,9 +6,9 @@ use Rattle.ll_layout.specs.Held.{Each, Holds, IsAt, IsHeld, IsWithin, LayoutValu
 use Rattle.ll_layout.specs.declared.side.Side.{Side}
 use Rattle.ll_layout.specs.declared.side.Side.TheVariants.{A, B}
 use Rattle.ll_layout.specs.declared.stored.KeptPart.{KeptPart}
-use Rattle.ll_layout.specs.declared.stored.Place.{Place}
-use Rattle.ll_layout.specs.declared.stored.Section.{Section}
-use Rattle.ll_layout.specs.declared.stored.Stored.{Stored}
+use Rattle.ll_layout.specs.declared.stored.Extent.{Extent}
+use Rattle.ll_layout.specs.declared.stored.StoredSection.{StoredSection}
+use Rattle.ll_layout.specs.declared.stored.StoredItem.{StoredItem}
 use Rattle.ll_spool.specs.declared.fault.NotKept.{NotKept}
 use Rattle.ll_spool.specs.Files.{AreHeld, AreOthersSame, AreRestSame, Files, HoldsFrom, IsChanged, IsHeldIn, IsReadAt, IsSourceOf}
 
@@ -28,7 +28,7 @@ pub same_slice : (n : ℕ) (bytes rest : List ℕ) → n ≡ length bytes → ta
 same_slice n bytes rest e = ap (λ m. take m (bytes ++ rest)) e ∙ take-append_seam bytes rest
 
 -- what was read is what stands there
-pub copied_bytes : (r : ℕ) (side : Side) (place : Place) (old new : Option Files) (x y : List ℕ) → length x ≡ length y → IsReadAt old r place x → IsReadAt old r place y
+pub copied_bytes : (r : ℕ) (side : Side) (place : Extent) (old new : Option Files) (x y : List ℕ) → length x ≡ length y → IsReadAt old r place x → IsReadAt old r place y
     → IsChanged r side (λ file. file ++ x) old new → IsChanged r side (λ file. file ++ y) old new
 copied_bytes r side place None new x y same a b h = h
 copied_bytes r side place (Some files) new x y same a b h =
@@ -53,8 +53,8 @@ pub copied_none : (r : ℕ) (side : Side) (of : ℕ → List ℕ) (files : Optio
 copied_none r side of None = refl
 copied_none r side of (Some files) = (sym (append-nil (files r side)), λ q s d. refl)
 
-text-snoc : (of : ℕ → List ℕ) (ss : List Section) (s : Section) → sections_text of (ss ++ s ∷ []) ≡ sections_text of ss ++ of s.stored.count
-text-snoc of ss s = flat_map-append (λ (t : Section). of t.stored.count) ss (s ∷ []) ∙ ap (λ xs. sections_text of ss ++ xs) (append-nil (of s.stored.count))
+text-snoc : (of : ℕ → List ℕ) (ss : List StoredSection) (s : StoredSection) → sections_text of (ss ++ s ∷ []) ≡ sections_text of ss ++ of s.stored.count
+text-snoc of ss s = flat_map-append (λ (t : StoredSection). of t.stored.count) ss (s ∷ []) ∙ ap (λ xs. sections_text of ss ++ xs) (append-nil (of s.stored.count))
 
 abbrev some-bytes : ℕ → List ℕ
 some-bytes zero = []
@@ -64,7 +64,7 @@ some-length : (n : ℕ) → length (some-bytes n) ≡ n
 some-length zero = refl
 some-length (suc n) = ap suc (some-length n)
 
-one-more : (of : ℕ → List ℕ) (r : ℕ) (side : Side) (s : Section) (ss : List Section) (old mid : Files) (new : Option Files) → IsHeld (old r) of s.stored
+one-more : (of : ℕ → List ℕ) (r : ℕ) (side : Side) (s : StoredSection) (ss : List StoredSection) (old mid : Files) (new : Option Files) → IsHeld (old r) of s.stored
     → s.stored.place.side ≡ other side → (mid r side ≡ old r side ++ sections_text of ss) × AreOthersSame r side old mid
     → IsChanged r side (λ file. file ++ of s.stored.count) (Some mid) new → IsChanged r side (λ file. file ++ sections_text of (ss ++ s ∷ [])) (Some old) new
 one-more of r side s ss old mid None held on m h = h
@@ -73,7 +73,7 @@ one-more of r side s ss old mid (Some new) held on m h = (
   λ q t d. h.1 q t d ∙ m.1 q t d,
 )
 
-pub copied_more : (of : ℕ → List ℕ) (r : ℕ) (side : Side) (s : Section) (ss : List Section) (old mid new : Option Files) → IsSourceOf r side of s.stored old
+pub copied_more : (of : ℕ → List ℕ) (r : ℕ) (side : Side) (s : StoredSection) (ss : List StoredSection) (old mid new : Option Files) → IsSourceOf r side of s.stored old
     → IsChanged r side (λ file. file ++ sections_text of ss) old mid
     → ((bytes : List ℕ) → length bytes ≡ s.stored.place.length → IsReadAt mid r s.stored.place bytes → IsChanged r side (λ file. file ++ bytes) mid new)
     → IsChanged r side (λ file. file ++ sections_text of (ss ++ s ∷ [])) old new
@@ -87,14 +87,14 @@ copied_more of r side s ss (Some old) (Some mid) new source m copies =
     (copies (of s.stored.count) (sym held.length) (subst (λ file. IsAt file s.stored.place.offset (of s.stored.count)) (sym same) held.at))
 
 -- the section at a place of those that are there
-pub source_at : (P : Section → Type 0) (ss : List Section) (i : ℕ) (d : Section) → i < length ss → Each P ss → P (get_or ss i d)
+pub source_at : (P : StoredSection → Type 0) (ss : List StoredSection) (i : ℕ) (d : StoredSection) → i < length ss → Each P ss → P (get_or ss i d)
 source_at P [] i d l all = absurd (omega (arith, l))
 source_at P (s ∷ ss) zero d l all = all.0
 source_at P (s ∷ ss) (suc i) d l all = source_at P ss i d (omega (arith, l)) all.1
 
 -- ---- what is held of one rendition
 
-held-same : (f g : Side → List ℕ) (of : ℕ → List ℕ) → ((at : Side) → g at ≡ f at) → (s : Stored) → IsHeld f of s → IsHeld g of s
+held-same : (f g : Side → List ℕ) (of : ℕ → List ℕ) → ((at : Side) → g at ≡ f at) → (s : StoredItem) → IsHeld f of s → IsHeld g of s
 held-same f g of same s h = record { at = subst (λ file. IsAt file s.place.offset (of s.count)) (sym (same s.place.side)) h.at; length = h.length }
 
 parts-same : (f g : Side → List ℕ) (of : ℕ → List ℕ) → ((at : Side) → g at ≡ f at) → (ps : List KeptPart) → Each (λ (p : KeptPart). IsHeld f of p.stored) ps
@@ -102,8 +102,8 @@ parts-same : (f g : Side → List ℕ) (of : ℕ → List ℕ) → ((at : Side) 
 parts-same f g of same [] all = tt
 parts-same f g of same (p ∷ ps) all = (held-same f g of same p.stored all.0, parts-same f g of same ps all.1)
 
-sections-same : (f g : Side → List ℕ) (of : ℕ → List ℕ) → ((at : Side) → g at ≡ f at) → (ss : List Section) → Each (λ (s : Section). IsHeld f of s.stored) ss
-    → Each (λ (s : Section). IsHeld g of s.stored) ss
+sections-same : (f g : Side → List ℕ) (of : ℕ → List ℕ) → ((at : Side) → g at ≡ f at) → (ss : List StoredSection) → Each (λ (s : StoredSection). IsHeld f of s.stored) ss
+    → Each (λ (s : StoredSection). IsHeld g of s.stored) ss
 sections-same f g of same [] all = tt
 sections-same f g of same (s ∷ ss) all = (held-same f g of same s.stored all.0, sections-same f g of same ss all.1)
 
@@ -139,9 +139,9 @@ turned_held of r l m (Some old) (Some mid) (Some new) held c a turn =
     (λ at. file-by (old r) (new r) side at text (a.0 ∙ ap (λ f. f ++ text) c.0) (λ s d. a.1 r s (inr d) ∙ c.1 r s (inr d))) (turn (old r) held)
 
 -- sections are on the side before, which wasn't emptied
-sources : (of : ℕ → List ℕ) (r : ℕ) (side : Side) (end : ℕ) (old mid : Files) (ss : List Section) → Each (λ (s : Section). IsWithin side end s.stored) ss
-    → Each (λ (s : Section). IsHeld (old r) of s.stored) ss → AreOthersSame r (other side) old mid
-    → Each (λ (s : Section). IsSourceOf r (other side) of s.stored (Some mid)) ss
+sources : (of : ℕ → List ℕ) (r : ℕ) (side : Side) (end : ℕ) (old mid : Files) (ss : List StoredSection) → Each (λ (s : StoredSection). IsWithin side end s.stored) ss
+    → Each (λ (s : StoredSection). IsHeld (old r) of s.stored) ss → AreOthersSame r (other side) old mid
+    → Each (λ (s : StoredSection). IsSourceOf r (other side) of s.stored (Some mid)) ss
 sources of r side end old mid [] within all others = tt
 sources of r side end old mid (s ∷ ss) within all others =
     let inside = within.0 in
@@ -152,12 +152,12 @@ sources of r side end old mid (s ∷ ss) within all others =
       sources of r side end old mid ss within.1 all.1 others,
     )
 
-no-sources : (of : ℕ → List ℕ) (r : ℕ) (side : Side) (ss : List Section) → Each (λ (s : Section). IsSourceOf r side of s.stored None) ss
+no-sources : (of : ℕ → List ℕ) (r : ℕ) (side : Side) (ss : List StoredSection) → Each (λ (s : StoredSection). IsSourceOf r side of s.stored None) ss
 no-sources of r side [] = tt
 no-sources of r side (s ∷ ss) = (tt, no-sources of r side ss)
 
 pub all_sources : (of : ℕ → List ℕ) (r : ℕ) (l : LayoutValue) (old mid : Option Files) → IsHeldIn r of l old → IsChanged r (other l.side) (λ file. []) old mid
-    → Each (λ (s : Section). IsWithin l.side l.end s.stored) l.sections → Each (λ (s : Section). IsSourceOf r (other l.side) of s.stored mid) l.sections
+    → Each (λ (s : StoredSection). IsWithin l.side l.end s.stored) l.sections → Each (λ (s : StoredSection). IsSourceOf r (other l.side) of s.stored mid) l.sections
 all_sources of r l None None held c within = no-sources of r (other l.side) l.sections
 all_sources of r l None (Some mid) held c within = absurd (cc)
 all_sources of r l (Some old) None held c within = absurd c

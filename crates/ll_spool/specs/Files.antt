@@ -2,8 +2,8 @@
 use Rattle.std.specs.Prelude.{◌≡◌, ◌≢◌, ◌⊎◌, ◌+◌, ⊤, ℕ, List, [], ◌∷◌, Option, Some, None}
 use Rattle.ll_layout.specs.Held.{Holds, IsAt, IsHeld, LayoutValue, other}
 use Rattle.ll_layout.specs.declared.side.Side.{Side}
-use Rattle.ll_layout.specs.declared.stored.Place.{Place}
-use Rattle.ll_layout.specs.declared.stored.Stored.{Stored}
+use Rattle.ll_layout.specs.declared.stored.Extent.{Extent}
+use Rattle.ll_layout.specs.declared.stored.StoredItem.{StoredItem}
 
 -- the bytes of each side of each rendition
 abbrev pub Files : Type 0
@@ -20,7 +20,7 @@ IsChanged rendition side change (Some old) None = ⊥
 IsChanged rendition side change (Some old) (Some new) = (new rendition side ≡ change (old rendition side)) × AreOthersSame rendition side old new
 
 -- a file has these bytes at this place; of files that aren't known nothing is said
-abbrev pub IsReadAt : Option Files → ℕ → Place → List ℕ → Type 0
+abbrev pub IsReadAt : Option Files → ℕ → Extent → List ℕ → Type 0
 IsReadAt None rendition place bytes = ⊤
 IsReadAt (Some files) rendition place bytes = IsAt (files rendition place.side) place.offset bytes
 
@@ -46,6 +46,6 @@ AreRestSame rendition (Some old) None = ⊥
 AreRestSame rendition (Some old) (Some new) = (r : ℕ) → r ≢ rendition → (s : Side) → new r s ≡ old r s
 
 -- the files have an item's bytes on the other side than `side`
-abbrev pub IsSourceOf : ℕ → Side → (ℕ → List ℕ) → Stored → Option Files → Type 0
+abbrev pub IsSourceOf : ℕ → Side → (ℕ → List ℕ) → StoredItem → Option Files → Type 0
 IsSourceOf rendition side of s None = ⊤
 IsSourceOf rendition side of s (Some files) = IsHeld (files rendition) of s × (s.place.side ≡ other side)

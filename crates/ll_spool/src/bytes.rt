@@ -2,13 +2,13 @@
 ghost use Rattle.std.specs.Prelude.{◌≡◌, ◌++◌, [], List, OnOk, length, ℕ};
 ghost use Rattle.ll_item.specs.Items.{media_of as bytes_of};
 ghost use Rattle.ll_layout.specs.Held.{Each, sections_text};
-ghost use Rattle.ll_layout.specs.declared.stored.Section.{Section as SectionValue};
+ghost use Rattle.ll_layout.specs.declared.stored.StoredSection.{StoredSection as SectionValue};
 ghost use Rattle.ll_spool.specs.Files.{AreRestSame, IsChanged, IsHeldIn, IsReadAt, IsSourceOf};
 
 use crate::disk::Disk;
 use crate::fault::NotKept;
 use ll_item::Item;
-use ll_layout::{Layout, Place, Section, Side, media_of};
+use ll_layout::{Layout, Extent, StoredSection, Side, media_of};
 use std::alloc::Global;
 
 /// Writes the bytes of `item`, the item of the number `count` in its channel, to the files of its rendition, and adds it to `layout`.
@@ -74,7 +74,7 @@ fn copy_sections<D: Disk>(
     disk: &mut D,
     rendition: usize,
     side: Side,
-    sections: &[Section],
+    sections: &[StoredSection],
 ) -> Result<(), NotKept>
     ensures text { D.lines disk.new ≡ D.lines disk.old }
     ensures copied { (of : ℕ → List ℕ) → Each (λ (s : SectionValue). IsSourceOf rendition side of s.stored (D.files disk.old)) sections.now
@@ -93,7 +93,7 @@ fn copy<D: Disk>(
     disk: &mut D,
     rendition: usize,
     side: Side,
-    place: Place,
+    place: Extent,
 ) -> Result<(), NotKept>
     ensures text { D.lines disk.new ≡ D.lines disk.old }
     ensures copied { (bytes : List ℕ) → length bytes ≡ place.length → IsReadAt (D.files disk.old) rendition place bytes

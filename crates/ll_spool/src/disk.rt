@@ -5,7 +5,7 @@ ghost use Rattle.std.specs.Option.{option_map};
 ghost use Rattle.ll_device.specs.Written.{AppendsPrefix};
 ghost use Rattle.ll_spool.specs.Files.{Files, IsChanged, IsReadAt};
 
-use ll_layout::{Place, Side};
+use ll_layout::{Extent, Side};
 
 /// A call of a disk failed.
 #[derive(Clone, Copy)]
@@ -46,6 +46,6 @@ pub trait Disk: Drop {
         ensures cut { OnOk result (IsChanged rendition side (λ file. take length file) (files self.old) (files self.new)) };
 
     /// Reads the bytes of `rendition` at `place` into `bytes`, which has room for just these; false if they aren't all there.
-    fn read(&self, rendition: usize, place: Place, bytes: &mut [u8]) -> bool
+    fn read(&self, rendition: usize, place: Extent, bytes: &mut [u8]) -> bool
         ensures { result ≡ true → IsReadAt (files self.now) rendition place bytes.new };
 }

@@ -13,7 +13,7 @@ use crate::lines::{Lines, cut_line};
 use crate::spool::Spool;
 use ll_entry::settings_text;
 use ll_item::{Item, Media, Payload};
-use ll_layout::{AddFault, Layout, Place, Stored};
+use ll_layout::{AddFault, Layout, Extent, StoredItem};
 use ll_settings::Settings;
 use std::alloc::{AllocError, Global};
 
@@ -149,12 +149,12 @@ fn follow(layouts: &mut Vec<Layout>, count: u64, item: &Item) -> Result<(), AddF
 }
 
 /// Returns the bytes that may still be asked for, in the order of their items.
-fn stored_in(alloc: Global, layouts: &[Layout]) -> Result<Vec<Stored>, AllocError> {
+fn stored_in(alloc: Global, layouts: &[Layout]) -> Result<Vec<StoredItem>, AllocError> {
     let mut stored = Vec::new(alloc);
     for layout in layouts {
         layout.push_stored(&mut stored)?;
     }
-    stored.sort_unstable_by_key(|stored: &Stored| stored.count);
+    stored.sort_unstable_by_key(|stored: &StoredItem| stored.count);
     Ok(stored)
 }
 
@@ -164,7 +164,7 @@ fn publish<D: Disk, A: Accepts>(
     alloc: Global,
     settings: &Settings,
     text: &[u8],
-    stored: &[Stored],
+    stored: &[StoredItem],
     disk: &D,
     channel: &mut A,
 ) -> Result<(u64, usize), RestoreFault>
@@ -184,7 +184,7 @@ fn publish<D: Disk, A: Accepts>(
 }
 
 /// Returns where the bytes of the item of the number `count` are, if these are `stored`.
-fn place_of(count: u64, stored: Option<&Stored>) -> Option<Place> {
+fn place_of(count: u64, stored: Option<&StoredItem>) -> Option<Extent> {
     match stored {
         Some(found) if found.count == count => Some(found.place),
         _ => None,
@@ -197,7 +197,7 @@ fn read_item<D: Disk>(
     settings: &Settings,
     count: u64,
     line: &[u8],
-    place: Option<Place>,
+    place: Option<Extent>,
     disk: &D,
 ) -> Result<Item, RestoreFault>
     requires few { count < 2 ^ 63 }
@@ -215,7 +215,7 @@ fn with_bytes<D: Disk>(
     alloc: Global,
     count: u64,
     item: Item,
-    place: Place,
+    place: Extent,
     disk: &D,
 ) -> Result<Item, RestoreFault>
     requires few { count < 2 ^ 63 }
@@ -232,7 +232,7 @@ fn media_at<D: Disk>(
     alloc: Global,
     count: u64,
     item: &Item,
-    place: Place,
+    place: Extent,
     disk: &D,
 ) -> Result<Media, RestoreFault>
     requires few { count < 2 ^ 63 }

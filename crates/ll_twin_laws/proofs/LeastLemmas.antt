@@ -10,7 +10,7 @@ use Rattle.ll_verdict.proofs.NewerLemmas.{folded-longer}
 use Rattle.ll_verdict.proofs.StepLemmas.{Earlier, along, at, decided-snoc, ends, held-earlier, held-snoc, items-snoc}
 use Rattle.ll_verdict.specs.Accepted.{refusal}
 use Rattle.ll_verdict.specs.Events.{Event, Publish, Ask, Collect, Close, Clock, Step, asks, items, taken, time}
-use Rattle.ll_verdict.specs.Verdict.{Request, at_once, closes, comes_after, deadline, decided, held, held_by, hold_by, is_close, is_there, reply, reply_at_step, reply_by, reply_with, waiting, wanted_of}
+use Rattle.ll_verdict.specs.Verdict.{Pending, at_once, closes, comes_after, deadline, decided, held, held_by, hold_by, is_close, is_there, reply, reply_at_step, reply_by, reply_with, waiting, wanted_of}
 use Rattle.ll_verdict.specs.declared.reply.Reply.{Reply}
 use Rattle.ll_verdict.specs.declared.reply.Settled.{Settled}
 use Rattle.ll_verdict.specs.declared.reply.Settled.TheVariants.{Timeout}
@@ -66,12 +66,12 @@ least-now c list (Clock ms) a x missing there is = false-true (is_there c list a
 
 -- ---- what is known of a request after some events
 
-abbrev IsKnownBy : Configuration → List Event → Request → Option Step → Type 0
+abbrev IsKnownBy : Configuration → List Event → Pending → Option Step → Type 0
 IsKnownBy c es r None = is_there c (items c es) r.wanted ≡ false
 IsKnownBy c es r (Some s) = (x : Settled) → reply_at_step c r s ≡ Some x → x ≢ Timeout → IsLeast c (items c es) r.wanted x
 
 -- while it isn't decided, what it awaits isn't there; then it has the reply of the least items
-abbrev IsKnown : Configuration → List Event → Request → Type 0
+abbrev IsKnown : Configuration → List Event → Pending → Type 0
 IsKnown c es r = IsKnownBy c es r (decided c es r)
 
 -- ---- one more event
@@ -93,7 +93,7 @@ some-is true g x h = absurd (cc)
 some-is false g x h = cc
 
 module _ (c : Configuration) (es : List Event) (e : Event) where
-  ended-now : (r : Request) → is_there c (items c es) r.wanted ≡ false → IsKnownBy c (es ++ e ∷ []) r (Some (at es e))
+  ended-now : (r : Pending) → is_there c (items c es) r.wanted ≡ false → IsKnownBy c (es ++ e ∷ []) r (Some (at es e))
   ended-now r missing x is other =
       let there = given (closes r (at es e)) (is_there c (items c (es ++ e ∷ [])) r.wanted) _ x is other in
       let now = items-snoc c es e in
@@ -101,27 +101,27 @@ module _ (c : Configuration) (es : List Event) (e : Event) where
       (least-now c (items c es) e r.wanted x missing (ap (λ list. is_there c list r.wanted) (sym now) ∙ there)
       (some-is (closes r (at es e)) (reply_with c (items c (es ++ e ∷ [])) r.wanted) x is ∙ ap (λ list. reply_with c list r.wanted) now))
 
-  going-by : (r : Request) (b : Bool) → Earlier es r → is_there c (items c es) r.wanted ≡ false → ends c r (at es e) ≡ b
+  going-by : (r : Pending) (b : Bool) → Earlier es r → is_there c (items c es) r.wanted ≡ false → ends c r (at es e) ≡ b
       → IsKnownBy c (es ++ e ∷ []) r (cond b (Some (at es e)) None)
   going-by r true lt missing h = ended-now r missing
   going-by r false lt missing h =
       let after : nat_lt (length r.before) (length es) ≡ true = grind (arith, nat_tests, lt) in
       still_missing (comes_after r (at es e)) (is_there c (items c (es ++ e ∷ [])) r.wanted) (nat_le (deadline c r) (time (es ++ e ∷ []))) (is_close r.ticket e) after h
 
-  known-by : (r : Request) (d : Option Step) → Earlier es r → IsKnownBy c es r d
+  known-by : (r : Pending) (d : Option Step) → Earlier es r → IsKnownBy c es r d
       → IsKnownBy c (es ++ e ∷ []) r (option_or d (cond (ends c r (at es e)) (Some (at es e)) None))
   known-by r (Some s) lt known = λ x is other.
       let p = folded-longer c (e ∷ []) (items c es) in
       least-more c (items c es) p.0 (items c (es ++ e ∷ [])) r.wanted x (items-snoc c es e ∙ p.1) (known x is other)
   known-by r None lt known = going-by r (ends c r (at es e)) lt known refl
 
-  known-still : (r : Request) → Earlier es r × IsKnown c es r → IsKnown c (es ++ e ∷ []) r
+  known-still : (r : Pending) → Earlier es r × IsKnown c es r → IsKnown c (es ++ e ∷ []) r
   known-still r h = subst (IsKnownBy c (es ++ e ∷ []) r) (sym (decided-snoc c es e r)) (known-by r (decided c es r) h.0 h.1)
 
 -- ---- a request that comes
 
 -- no event up to the request itself decides it
-unborn : (c : Configuration) (r : Request) (es : List Event) → length es ≤ length r.before + 1 → decided c es r ≡ None
+unborn : (c : Configuration) (r : Pending) (es : List Event) → length es ≤ length r.before + 1 → decided c es r ≡ None
 unborn c r es = along (λ es. length es ≤ length r.before + 1 → decided c es r ≡ None) (λ _. refl)
     (λ es e h le.
     let short : length es + 1 ≤ length r.before + 1 = omega (arith, length-append es (e ∷ []), le) in
@@ -131,7 +131,7 @@ unborn c r es = along (λ es. length es ≤ length r.before + 1 → decided c es
 known-new : (c : Configuration) (es : List Event) (e : Event) (n ticket : ℕ) (o : Option Wanted) (reply : Option Reply) → items c (es ++ e ∷ []) ≡ items c es
     → reply_by c n (items c es) o ≡ reply → Each (IsKnown c (es ++ e ∷ [])) (held_by reply ticket es o)
 known-new c es e n ticket (Some a) None same h =
-    let r : Request = record { ticket = ticket; wanted = a; before = es } in
+    let r : Pending = record { ticket = ticket; wanted = a; before = es } in
     let none = unborn c r (es ++ e ∷ []) (omega (arith, length-append es (e ∷ []))) in
     (subst (IsKnownBy c (es ++ e ∷ []) r) (sym none) (ap (λ list. is_there c list a) same ∙ awaited-missing c n (items c es) a h), tt)
 known-new c es e n ticket None None same h = tt
@@ -162,13 +162,13 @@ all-known : (c : Configuration) (es : List Event) → Each (IsKnown c es) (held 
 all-known c es = along (λ es. Each (IsKnown c es) (held c es)) tt
     (λ es e h. subst (Each (IsKnown c (es ++ e ∷ []))) (sym (held-snoc c es e)) (hold-known c es e h)) es
 
-by-decision : (c : Configuration) (es : List Event) (r : Request) (x : Settled) (d : Option Step) → IsKnownBy c es r d
+by-decision : (c : Configuration) (es : List Event) (r : Pending) (x : Settled) (d : Option Step) → IsKnownBy c es r d
     → option_and_then (reply_at_step c r) d ≡ Some x → x ≢ Timeout → IsLeast c (items c es) r.wanted x
 by-decision c es r x None known is other = absurd (cc)
 by-decision c es r x (Some s) known is other = known x is other
 
 -- what a request gets that had to wait and isn't timed out
-pub got-least : (c : Configuration) (es : List Event) (place : ℕ) (r : Request) (x : Settled) → slice_get (held c es) place ≡ Some r
+pub got-least : (c : Configuration) (es : List Event) (place : ℕ) (r : Pending) (x : Settled) → slice_get (held c es) place ≡ Some r
     → reply c es r ≡ Some x → x ≢ Timeout → IsLeast c (items c es) r.wanted x
 got-least c es place r x waits is other =
     by-decision c es r x (decided c es r) (each-at (IsKnown c es) (held c es) place r (all-known c es) waits) is other

@@ -15,7 +15,7 @@ use Rattle.ll_rendition.specs.declared.rendition.Rendition.{Rendition}
 use Rattle.ll_settings.specs.Settings.{Configuration}
 use Rattle.ll_store.specs.Media.{media}
 use Rattle.ll_verdict.specs.Events.{Event, items}
-use Rattle.ll_verdict.specs.Verdict.{Request, held, reply}
+use Rattle.ll_verdict.specs.Verdict.{Pending, held, reply}
 use Rattle.ll_verdict.specs.declared.reply.Settled.{Settled}
 use Rattle.ll_verdict.specs.declared.reply.Settled.TheVariants.{Timeout}
 use Rattle.ll_window.specs.Segments.{own}
@@ -84,7 +84,7 @@ ReportsLaw = (c : Configuration) (list other : List Item) (rendition : ℕ) (for
 -- reply of both, unless one of these is Timeout.
 abbrev pub SameReplyLaw : Type 0
 SameReplyLaw = (c : Configuration) (events others : List Event) (more : List Item) → items c others ≡ items c events ++ more
-    → (place spot : ℕ) (r s : Request) → slice_get (held c events) place ≡ Some r → slice_get (held c others) spot ≡ Some s → r.wanted ≡ s.wanted
+    → (place spot : ℕ) (r s : Pending) → slice_get (held c events) place ≡ Some r → slice_get (held c others) spot ≡ Some s → r.wanted ≡ s.wanted
     → (x y : Settled) → reply c events r ≡ Some x → reply c others s ≡ Some y → x ≢ Timeout → y ≢ Timeout → x ≡ y
 
 -- a moment of a channel at which it has accepted these items: its texts and its media are those of the items

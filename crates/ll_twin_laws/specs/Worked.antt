@@ -11,7 +11,7 @@ use Rattle.ll_pieces.specs.View.{seen}
 use Rattle.ll_settings.specs.Settings.{Configuration}
 use Rattle.ll_store.specs.Media.{media}
 use Rattle.ll_verdict.specs.Events.{Event, Publish, Ask, Close, Clock, items}
-use Rattle.ll_verdict.specs.Verdict.{Request, held, page_of, reply}
+use Rattle.ll_verdict.specs.Verdict.{Pending, held, page_of, reply}
 use Rattle.ll_verdict.specs.declared.reply.Settled.TheVariants.{Text}
 use Rattle.ll_verdict.specs.declared.wanted.Wanted.{Wanted}
 use Rattle.ll_window.specs.Segments.{own}
@@ -62,10 +62,10 @@ some_events = Publish (part 0 1) ∷ Ask want ∷ Clock 700 ∷ Publish (part 1 
 abbrev pub other_events : List Event
 other_events = Ask want ∷ Clock 300 ∷ Publish (part 0 1) ∷ Publish (part 1 2) ∷ Ask want ∷ Close 1 ∷ Publish (part 0 3) ∷ Clock 900 ∷ Publish (part 1 4) ∷ []
 
-abbrev pub some_request : Request
+abbrev pub some_request : Pending
 some_request = record { ticket = 1; wanted = wanted; before = Publish (part 0 1) ∷ [] }
 
-abbrev pub other_request : Request
+abbrev pub other_request : Pending
 other_request = record { ticket = 2; wanted = wanted; before = Ask want ∷ Clock 300 ∷ Publish (part 0 1) ∷ Publish (part 1 2) ∷ [] }
 
 pub record WorkedTwins : Type 0 where

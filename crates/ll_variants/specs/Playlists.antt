@@ -2,7 +2,7 @@
 use Rattle.std.specs.Prelude.{ℕ, ◌+◌, ◌&&◌, Bool, true, false, not, List, [], ◌∷◌, ◌++◌, bytes_eq, is_none, max, if◌then◌else◌}
 use Rattle.std.specs.List.{list_any}
 use Rattle.ll_codecs.specs.Sections.{first_picture}
-use Rattle.ll_codecs.specs.declared.track.Track.{Track}
+use Rattle.ll_codecs.specs.declared.track.CodecTrack.{CodecTrack}
 use Rattle.ll_variants.specs.Lines.{codecs_text, group_text, header, joined, media_text, picture_text, rates_text, uri_text}
 use Rattle.ll_variants.specs.declared.rates.Rates.{Rates}
 use Rattle.ll_variants.specs.declared.stream.Stream.{Stream}
@@ -45,7 +45,7 @@ variant_rates false streams s = s.rates
 abbrev pub with_codec : List (List ℕ) → List ℕ → List (List ℕ)
 with_codec codecs codec = if list_any (bytes_eq codec) codecs then codecs else codecs ++ codec ∷ []
 
-abbrev pub with_tracks : List (List ℕ) → List Track → List (List ℕ)
+abbrev pub with_tracks : List (List ℕ) → List CodecTrack → List (List ℕ)
 with_tracks codecs [] = codecs
 with_tracks codecs (track ∷ more) = with_tracks (with_codec codecs track.codec) more
 

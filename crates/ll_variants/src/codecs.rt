@@ -6,7 +6,7 @@ ghost use Rattle.ll_variants.specs.Playlists as spec;
 
 use crate::stream::Stream;
 use ll_attr::Text;
-use ll_codecs::Track;
+use ll_codecs::CodecTrack;
 use std::alloc::{AllocError, Global};
 
 /// Returns the codecs of `stream` and, if `grouped`, of those of `streams` without pictures.
@@ -41,7 +41,7 @@ fn push_sounds(codecs: &mut Vec<Text>, streams: &[Stream]) -> Result<(), AllocEr
 }
 
 /// Appends the codecs of `tracks` that aren't in `codecs` yet.
-fn push_tracks(codecs: &mut Vec<Text>, tracks: &[Track]) -> Result<(), AllocError>
+fn push_tracks(codecs: &mut Vec<Text>, tracks: &[CodecTrack]) -> Result<(), AllocError>
     ensures { OnOk result (codecs.new.items ≡ spec.with_tracks codecs.old.items tracks.now) }
 {
     let mut left = tracks;

@@ -10,5 +10,5 @@ mod stream;
 
 pub use playlist::playlist_text;
 pub use rates::{Rates, rates_of};
-pub use segments::{Piece, Size, finished_segments};
+pub use segments::{Addition, Size, finished_segments};
 pub use stream::{Stream, VariantFault};

@@ -16,7 +16,7 @@ pub struct Size {
 
 /// What an item adds to the segments of its rendition.
 #[derive(Clone, Copy)]
-pub struct Piece {
+pub struct Addition {
     /// The index of the rendition in the settings of its channel.
     pub rendition: usize,
     /// The size of the part that the item is, or nothing.
@@ -46,21 +46,21 @@ impl Size {
     }
 }
 
-/// Returns the finished segments of the rendition with the index `rendition`, whose items are among `pieces`.
+/// Returns the finished segments of the rendition with the index `rendition`, whose items are among `additions`.
 pub fn finished_segments(
     alloc: Global,
     rendition: usize,
-    pieces: &[Piece],
+    additions: &[Addition],
 ) -> Result<Vec<Size>, VariantFault>
-    ensures { IfOk result (λ segments. segments.items ≡ spec.segments_of rendition pieces.now) }
+    ensures { IfOk result (λ segments. segments.items ≡ spec.segments_of rendition additions.now) }
 {
     let mut segments = Vec::new(alloc);
     let mut sum = Size::none();
-    let mut left = pieces;
-    'pieces: while let Some((piece, more)) = left.split_first() {
-        if piece.rendition == rendition {
-            sum = sum.plus(piece.size).ok_or(VariantFault::TooLarge)?;
-            if is_end(piece, sum) {
+    let mut left = additions;
+    'additions: while let Some((addition, more)) = left.split_first() {
+        if addition.rendition == rendition {
+            sum = sum.plus(addition.size).ok_or(VariantFault::TooLarge)?;
+            if is_end(addition, sum) {
                 if segments.push(sum).is_err() {
                     return Err(VariantFault::Memory);
                 }
@@ -72,9 +72,9 @@ pub fn finished_segments(
     Ok(segments)
 }
 
-/// Returns whether `piece` ends the open segment, which has the size `sum` with it.
-fn is_end(piece: &Piece, sum: Size) -> bool
-    ensures { result ≡ spec.is_end piece.now sum }
+/// Returns whether `addition` ends the open segment, which has the size `sum` with it.
+fn is_end(addition: &Addition, sum: Size) -> bool
+    ensures { result ≡ spec.is_end addition.now sum }
 {
-    piece.ends && 0 < sum.duration
+    addition.ends && 0 < sum.duration
 }

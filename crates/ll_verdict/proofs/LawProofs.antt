@@ -6,7 +6,7 @@ use Rattle.ll_verdict.specs.Events.{Event, Step, until}
 use Rattle.ll_verdict.specs.Laws.{IsFirst, FirstStateLaw, OneVerdictLaw}
 use Rattle.ll_verdict.specs.State.{state_of, is_waiting}
 use Rattle.ll_verdict.specs.declared.entry.Slot.{Slot}
-use Rattle.ll_verdict.specs.Verdict.{Request, decided}
+use Rattle.ll_verdict.specs.Verdict.{Pending, decided}
 use Rattle.ll_verdict.proofs.StepLemmas.{at, ends, along, decided-snoc}
 
 pub one_verdict : OneVerdictLaw
@@ -21,7 +21,7 @@ none_some x h = true≢false (ap is_none h)
 some_is : {X : Type 0} (x y : X) → Some x ≡ Some y → x ≡ y
 some_is x y h = ap (λ o. elim o [ None ↦ x | Some z ↦ z ]) h
 
-first_new : (c : Configuration) (es : List Event) (e : Event) (r : Request) (s : Step) (b : Bool) → ends c r (at es e) ≡ b → decided c es r ≡ None
+first_new : (c : Configuration) (es : List Event) (e : Event) (r : Pending) (s : Step) (b : Bool) → ends c r (at es e) ≡ b → decided c es r ≡ None
     → cond b (Some (at es e)) None ≡ Some s → IsFirst c (es ++ e ∷ []) r s
 first_new c es e r s false f n h = absurd (none_some s h)
 first_new c es e r s true f n h =
@@ -33,7 +33,7 @@ first_new c es e r s true f n h =
       first = ap (λ (s : Step). decided c s.before r) (sym k) ∙ n;
     }
 
-first_by : (c : Configuration) (es : List Event) (e : Event) (r : Request) (s : Step) (d : Option Step) → decided c es r ≡ d → (d ≡ Some s → IsFirst c es r s)
+first_by : (c : Configuration) (es : List Event) (e : Event) (r : Pending) (s : Step) (d : Option Step) → decided c es r ≡ d → (d ≡ Some s → IsFirst c es r s)
     → option_or d (cond (ends c r (at es e)) (Some (at es e)) None) ≡ Some s → IsFirst c (es ++ e ∷ []) r s
 first_by c es e r s None f ih h = first_new c es e r s (ends c r (at es e)) refl f h
 first_by c es e r s (Some s0) f ih h =

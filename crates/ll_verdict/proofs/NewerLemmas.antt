@@ -11,7 +11,7 @@ use Rattle.ll_verdict.specs.Accepted.{refusal}
 use Rattle.ll_verdict.specs.Events.{Event, Publish, Ask, Collect, Close, Clock, Step, asks, items, taken, until}
 use Rattle.ll_directive.specs.Files.{is_playlist}
 use Rattle.ll_verdict.specs.Laws.{NewerMediaLaw, NewerTextLaw}
-use Rattle.ll_verdict.specs.Verdict.{Request, at_once, closes, comes_after, decided, given, held, held_by, hold_by, is_close, is_there, media_of, media_or_none, page_of, piece_of, reply, reply_at_step, reply_by, settles, waiting, wanted_of}
+use Rattle.ll_verdict.specs.Verdict.{Pending, at_once, closes, comes_after, decided, given, held, held_by, hold_by, is_close, is_there, media_of, media_or_none, page_of, piece_of, reply, reply_at_step, reply_by, settles, waiting, wanted_of}
 use Rattle.ll_verdict.specs.declared.piece.MediaReply.{MediaReply}
 use Rattle.ll_verdict.specs.declared.reply.Reply.{Reply}
 use Rattle.ll_verdict.specs.declared.reply.Settled.{Settled}
@@ -30,13 +30,13 @@ given_after c items a = given (length items) a (page_of c items a) (media_of c i
 -- ---- a request that has to wait
 
 -- it was asked at some time of the channel, when what it awaits wasn't there
-abbrev IsAsked : Configuration → List Event → Request → Type 0
+abbrev IsAsked : Configuration → List Event → Pending → Type 0
 IsAsked c es r = (after : List Event) × (es ≡ r.before ++ after) × (is_there c (items c r.before) r.wanted ≡ false)
 
-still_asked : (c : Configuration) (es : List Event) (e : Event) (r : Request) → IsAsked c es r → IsAsked c (es ++ e ∷ []) r
+still_asked : (c : Configuration) (es : List Event) (e : Event) (r : Pending) → IsAsked c es r → IsAsked c (es ++ e ∷ []) r
 still_asked c es e r h = (h.0 ++ e ∷ [], ap (λ xs. xs ++ e ∷ []) h.1 ∙ append_assoc r.before h.0 (e ∷ []), h.2)
 
-kept_asked : (c : Configuration) (es : List Event) (e : Event) (rs : List Request) → Each (IsAsked c es) rs → Each (IsAsked c (es ++ e ∷ [])) rs
+kept_asked : (c : Configuration) (es : List Event) (e : Event) (rs : List Pending) → Each (IsAsked c es) rs → Each (IsAsked c (es ++ e ∷ [])) rs
 kept_asked c es e rs h = each-map (IsAsked c es) (IsAsked c (es ++ e ∷ [])) (still_asked c es e) rs h
 
 added_asked : (c : Configuration) (es : List Event) (e : Event) (n ticket : ℕ) (o : Option Wanted) (reply : Option Reply) → reply_by c n (items c es) o ≡ reply
@@ -45,7 +45,7 @@ added_asked c es e n ticket (Some a) None h = ((e ∷ [], refl, awaited-missing 
 added_asked c es e n ticket None None h = tt
 added_asked c es e n ticket o (Some reply) h = tt
 
-hold_asked : (c : Configuration) (es : List Event) (e : Event) (rs : List Request) → Each (IsAsked c es) rs → Each (IsAsked c (es ++ e ∷ [])) (hold_by c rs es e)
+hold_asked : (c : Configuration) (es : List Event) (e : Event) (rs : List Pending) → Each (IsAsked c es) rs → Each (IsAsked c (es ++ e ∷ [])) (hold_by c rs es e)
 hold_asked c es (Publish item) rs h = kept_asked c es (Publish item) rs h
 hold_asked c es (Ask want) rs h =
     each-append (IsAsked c (es ++ Ask want ∷ [])) rs (held_by (at_once c rs es want) (asks es + 1) es (wanted_of c want)) (kept_asked c es (Ask want) rs h)
@@ -110,7 +110,7 @@ after_by : (x y z : Bool) → (x && y || x && z) ≡ true → x ≡ true
 after_by true y z h = refl
 after_by false y z h = cc
 
-comes-after : (c : Configuration) (r : Request) (s : Step) → (settles c r s || closes r s) ≡ true → length r.before ≤ length (until s)
+comes-after : (c : Configuration) (r : Pending) (s : Step) → (settles c r s || closes r s) ≡ true → length r.before ≤ length (until s)
 comes-after c r s h =
     let after : nat_lt (length r.before) (length s.before) ≡ true = after_by (comes_after r s) _ (is_close r.ticket s.event) h in
     let lt : length r.before < length s.before = grind (arith, nat_tests) in
@@ -123,7 +123,7 @@ given_by false true g s h other = (cc, refl)
 given_by false false g s h other = absurd (other cc)
 
 -- what a request gets that had to wait and whose time isn't over, at a moment that begins with what was before it
-record IsGiven (c : Configuration) (events : List Event) (r : Request) (s : Settled) : Type 0 where
+record IsGiven (c : Configuration) (events : List Event) (r : Pending) (s : Settled) : Type 0 where
   since : List Event
   rest : List Event
   place : events ≡ (r.before ++ since) ++ rest
@@ -131,7 +131,7 @@ record IsGiven (c : Configuration) (events : List Event) (r : Request) (s : Sett
   there : is_there c (items c (r.before ++ since)) r.wanted ≡ true
   newer : length (items c r.before) < length (items c (r.before ++ since))
 
-given-from : (c : Configuration) (events : List Event) (r : Request) (s : Settled) (front since rest : List Event) → events ≡ front ++ rest → front ≡ r.before ++ since
+given-from : (c : Configuration) (events : List Event) (r : Pending) (s : Settled) (front since rest : List Event) → events ≡ front ++ rest → front ≡ r.before ++ since
     → is_there c (items c r.before) r.wanted ≡ false → s ≡ given_after c (items c front) r.wanted → is_there c (items c front) r.wanted ≡ true → IsGiven c events r s
 given-from c events r s front since rest place begins missing is there =
     let found : is_there c (items c (r.before ++ since)) r.wanted ≡ true = ap (λ es. is_there c (items c es) r.wanted) (sym begins) ∙ there in
@@ -144,7 +144,7 @@ given-from c events r s front since rest place begins missing is there =
       newer = came_between c r.before since r.wanted missing found;
     }
 
-by_decision : (c : Configuration) (events : List Event) (r : Request) (s : Settled) (o : Option Step) → decided c events r ≡ o → IsAsked c events r
+by_decision : (c : Configuration) (events : List Event) (r : Pending) (s : Settled) (o : Option Step) → decided c events r ≡ o → IsAsked c events r
     → option_and_then (reply_at_step c r) o ≡ Some s → (s ≡ Timeout → ⊥) → IsGiven c events r s
 by_decision c events r s None e asked h other = cc
 by_decision c events r s (Some step) e asked h other =
@@ -153,7 +153,7 @@ by_decision c events r s (Some step) e asked h other =
     let is = given_by (closes r step) (is_there c (items c (until step)) r.wanted) (given_after c (items c (until step)) r.wanted) s h other in
     given-from c events r s (until step) p.0 f.rest f.place p.1 asked.2 is.0 is.1
 
-got : (c : Configuration) (events : List Event) (place : ℕ) (r : Request) (s : Settled) → slice_get (held c events) place ≡ Some r
+got : (c : Configuration) (events : List Event) (place : ℕ) (r : Pending) (s : Settled) → slice_get (held c events) place ≡ Some r
     → reply c events r ≡ Some s → (s ≡ Timeout → ⊥) → IsGiven c events r s
 got c events place r s h e other = by_decision c events r s (decided c events r) refl (each-at (IsAsked c events) (held c events) place r (held_asked c events) h) e other
 

@@ -9,7 +9,7 @@ use Rattle.ll_verdict.specs.Events.{Event, Publish, Ask, Collect, Close, Clock, 
 use Rattle.ll_verdict.specs.State.{leaves, gone}
 use Rattle.ll_verdict.specs.declared.wanted.Wanted.{Wanted}
 use Rattle.ll_verdict.specs.declared.reply.Reply.{Reply}
-use Rattle.ll_verdict.specs.Verdict.{Request, held, held_by, hold, hold_by, decided, settles, closes, at_once, wanted_of}
+use Rattle.ll_verdict.specs.Verdict.{Pending, held, held_by, hold, hold_by, decided, settles, closes, at_once, wanted_of}
 use Rattle.ll_verdict.proofs.ListLemmas.{Each, each-append, each-map}
 
 abbrev pub at : List Event → Event → Step
@@ -44,10 +44,10 @@ asks-snoc es e = fold-append counted 0 es (e ∷ [])
 pub held-snoc : (c : Configuration) (es : List Event) (e : Event) → held c (es ++ e ∷ []) ≡ hold_by c (held c es) es e
 held-snoc c es e = ap (fold (hold c) []) (steps-snoc es e) ∙ fold-append (hold c) [] (steps es) (at es e ∷ [])
 
-abbrev pub ends : Configuration → Request → Step → Bool
+abbrev pub ends : Configuration → Pending → Step → Bool
 ends c r s = settles c r s || closes r s
 
-pub decided-snoc : (c : Configuration) (es : List Event) (e : Event) (r : Request)
+pub decided-snoc : (c : Configuration) (es : List Event) (e : Event) (r : Pending)
     → decided c (es ++ e ∷ []) r ≡ option_or (decided c es r) (cond (ends c r (at es e)) (Some (at es e)) None)
 decided-snoc c es e r = ap (find (ends c r)) (steps-snoc es e) ∙ find-append (ends c r) (steps es) (at es e ∷ [])
 
@@ -55,19 +55,19 @@ pub or_false : (b : Bool) → (b || false) ≡ b
 or_false true = refl
 or_false false = refl
 
-pub gone-snoc : (c : Configuration) (es : List Event) (e : Event) (r : Request) → gone c (es ++ e ∷ []) r ≡ (gone c es r || leaves c r (at es e))
+pub gone-snoc : (c : Configuration) (es : List Event) (e : Event) (r : Pending) → gone c (es ++ e ∷ []) r ≡ (gone c es r || leaves c r (at es e))
 gone-snoc c es e r =
     ap (list_any (leaves c r)) (steps-snoc es e) ∙ list_any-append (leaves c r) (steps es) (at es e ∷ [])
     ∙ ap (λ b. gone c es r || b) (or_false (leaves c r (at es e)))
 
 -- a request that had to wait was made before
-abbrev pub Earlier : List Event → Request → Type 0
+abbrev pub Earlier : List Event → Pending → Type 0
 Earlier es r = length r.before < length es
 
 longer : (es : List Event) (e : Event) → length es < length (es ++ e ∷ [])
 longer es e = omega (arith, length-append es (e ∷ []))
 
-kept_earlier : (es : List Event) (e : Event) (rs : List Request) → Each (Earlier es) rs → Each (Earlier (es ++ e ∷ [])) rs
+kept_earlier : (es : List Event) (e : Event) (rs : List Pending) → Each (Earlier es) rs → Each (Earlier (es ++ e ∷ [])) rs
 kept_earlier es e rs h = each-map (Earlier es) (Earlier (es ++ e ∷ [])) (λ r lt. omega (arith, longer es e)) rs h
 
 added_earlier : (o : Option Reply) (t : ℕ) (es : List Event) (e : Event) (a : Option Wanted) → Each (Earlier (es ++ e ∷ [])) (held_by o t es a)
@@ -75,7 +75,7 @@ added_earlier None t es e (Some a) = (longer es e, tt)
 added_earlier None t es e None = tt
 added_earlier (Some reply) t es e a = tt
 
-hold_earlier : (c : Configuration) (es : List Event) (e : Event) (rs : List Request) → Each (Earlier es) rs → Each (Earlier (es ++ e ∷ [])) (hold_by c rs es e)
+hold_earlier : (c : Configuration) (es : List Event) (e : Event) (rs : List Pending) → Each (Earlier es) rs → Each (Earlier (es ++ e ∷ [])) (hold_by c rs es e)
 hold_earlier c es (Publish item) rs h = kept_earlier es (Publish item) rs h
 hold_earlier c es (Ask w) rs h =
     each-append (Earlier (es ++ Ask w ∷ [])) rs (held_by (at_once c rs es w) (asks es + 1) es (wanted_of c w)) (kept_earlier es (Ask w) rs h)

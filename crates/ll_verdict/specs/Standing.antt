@@ -5,7 +5,7 @@ use Rattle.ll_item.specs.Told.{end_time}
 use Rattle.ll_item.specs.declared.item.Item.{Item}
 use Rattle.ll_rendition.specs.declared.rendition.Rendition.{Rendition}
 use Rattle.ll_verdict.specs.declared.standing.Standing.{Standing}
-use Rattle.ll_window.specs.Compact.{clock, compact}
+use Rattle.ll_window.specs.Compact.{next_start, compact}
 use Rattle.ll_window.specs.Segments.{ended, open_segment, own, segments}
 
 -- the smallest number of whole milliseconds that is no less than `micros` microseconds
@@ -22,7 +22,7 @@ standing c items rendition =
       number = c.first + length (segments its);
       index = length (open_segment its);
       end_time = end_time its;
-      time = millis_up (clock (compact c its));
+      time = millis_up (next_start (compact c its));
       ended = ended its;
     }
 
@@ -33,6 +33,6 @@ standing_of count k = record {
   number = k.window.next_number;
   index = length k.window.open_parts;
   end_time = k.window.end_time;
-  time = millis_up (clock k.window);
+  time = millis_up (next_start k.window);
   ended = k.window.ended;
 }

@@ -8,7 +8,7 @@ use Rattle.ll_verdict.specs.declared.wanted.Wanted.{Wanted}
 use Rattle.ll_verdict.specs.declared.entry.Slot.{Slot}
 use Rattle.ll_verdict.specs.declared.reply.Reply.{Reply}
 use Rattle.ll_verdict.specs.Events.{Event, Publish, Ask, Collect, Close, Clock, Step, steps, items, time, asks, taken, later, counted}
-use Rattle.ll_verdict.specs.Verdict.{wanted_of, Request, deadline, is_there, closes, reply, reply_by, reply_with, held}
+use Rattle.ll_verdict.specs.Verdict.{wanted_of, Pending, deadline, is_there, closes, reply, reply_by, reply_with, held}
 
 pub record State : Type 0 where
   -- all items that were accepted
@@ -22,7 +22,7 @@ pub record State : Type 0 where
   -- how many events there were
   pub events : ℕ
 
-abbrev pub slot_of : Configuration → List Event → Request → Slot
+abbrev pub slot_of : Configuration → List Event → Pending → Slot
 slot_of c events r = record {
   entry = record { ticket = r.ticket; wanted = r.wanted; seen = length (items c r.before); deadline = deadline c r };
   settled = reply c events r;
@@ -36,15 +36,15 @@ is_collect ticket (Close other) = false
 is_collect ticket (Clock ms) = false
 
 -- with this event the request is closed, or its reply is handed out
-abbrev pub leaves : Configuration → Request → Step → Bool
+abbrev pub leaves : Configuration → Pending → Step → Bool
 leaves c r s = closes r s || (is_collect r.ticket s.event && is_some (reply c s.before r))
 
 -- whether the request is no longer open
-abbrev pub gone : Configuration → List Event → Request → Bool
+abbrev pub gone : Configuration → List Event → Pending → Bool
 gone c events r = list_any (leaves c r) (steps events)
 
 -- the requests that wait or whose reply wasn't handed out, in order of asking
-abbrev pub open_requests : Configuration → List Event → List Request
+abbrev pub open_requests : Configuration → List Event → List Pending
 open_requests c events = filter (λ r. not (gone c events r)) (held c events)
 
 -- the state that stands for `events`

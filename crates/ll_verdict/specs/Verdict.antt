@@ -103,22 +103,22 @@ reply_by c waiting items None = Some NotFound
 reply_by c waiting items (Some a) = reply_now c waiting items a
 
 -- a request that had to wait, and all events before it
-pub record Request : Type 0 where
+pub record Pending : Type 0 where
   -- the number of the request, from 1
   pub ticket : ℕ
   pub wanted : Wanted
   pub before : List Event
 
 -- the channel's time at which a request times out, in milliseconds: three target durations after it was made (rule 27)
-abbrev pub deadline : Configuration → Request → ℕ
+abbrev pub deadline : Configuration → Pending → ℕ
 deadline c r = time r.before + 3000 * c.target
 
 -- the event comes after the request itself
-abbrev pub comes_after : Request → Step → Bool
+abbrev pub comes_after : Pending → Step → Bool
 comes_after r s = nat_lt (length r.before) (length s.before)
 
 -- with this event what the request awaits is there, its rendition has ended, or its deadline is reached
-abbrev pub settles : Configuration → Request → Step → Bool
+abbrev pub settles : Configuration → Pending → Step → Bool
 settles c r s = comes_after r s && (is_there c (items c (until s)) r.wanted || nat_le (deadline c r) (time (until s)))
 
 abbrev pub is_close : ℕ → Event → Bool
@@ -129,11 +129,11 @@ is_close ticket (Close other) = ticket == other
 is_close ticket (Clock ms) = false
 
 -- this event closes the request
-abbrev pub closes : Request → Step → Bool
+abbrev pub closes : Pending → Step → Bool
 closes r s = comes_after r s && is_close r.ticket s.event
 
 -- the first event that decides the request (rule 27)
-abbrev pub decided : Configuration → List Event → Request → Option Step
+abbrev pub decided : Configuration → List Event → Pending → Option Step
 decided c events r = find (λ s. settles c r s || closes r s) (steps events)
 
 -- the reply to a held request, as any reply
@@ -156,38 +156,38 @@ abbrev pub reply_with : Configuration → List Item → Wanted → Settled
 reply_with c items a = if is_there c items a then given (length items) a (page_of c items a) (media_of c items a) else Timeout
 
 -- what a request gets from the event that decides it: nothing if the event closes it, else the reply of that very state (rule 22)
-abbrev pub reply_at_step : Configuration → Request → Step → Option Settled
+abbrev pub reply_at_step : Configuration → Pending → Step → Option Settled
 reply_at_step c r s = if closes r s then None else Some (reply_with c (items c (until s)) r.wanted)
 
 -- what a request gets; none while it is undecided, and none if it was closed (rule 27)
-abbrev pub reply : Configuration → List Event → Request → Option Settled
+abbrev pub reply : Configuration → List Event → Pending → Option Settled
 reply c events r = option_and_then (reply_at_step c r) (decided c events r)
 
 -- how many of the requests `rs` wait after `events`
-abbrev pub waiting : Configuration → List Event → List Request → ℕ
+abbrev pub waiting : Configuration → List Event → List Pending → ℕ
 waiting c events rs = length (filter (λ r. is_none (decided c events r)) rs)
 
 -- The reply to a request at once, or none if it has to wait; the requests `earlier` had to wait before. The first case that applies: its
 -- rendition is unknown; it awaits nothing that isn't there, or its rendition has ended; what it awaits is too far ahead, or is media that isn't
 -- the next part; no more requests can wait. These are the cases from the fourth on (rule 26).
-abbrev pub at_once : Configuration → List Request → List Event → WantValue → Option Reply
+abbrev pub at_once : Configuration → List Pending → List Event → WantValue → Option Reply
 at_once c earlier events want = reply_by c (waiting c events earlier) (items c events) (wanted_of c want)
 
-abbrev pub held_by : Option Reply → ℕ → List Event → Option Wanted → List Request
+abbrev pub held_by : Option Reply → ℕ → List Event → Option Wanted → List Pending
 held_by None ticket before (Some a) = (record { ticket = ticket; wanted = a; before = before }) ∷ []
 held_by None ticket before None = []
 held_by (Some answer) ticket before wanted = []
 
-abbrev pub hold_by : Configuration → List Request → List Event → Event → List Request
+abbrev pub hold_by : Configuration → List Pending → List Event → Event → List Pending
 hold_by c rs before (Publish item) = rs
 hold_by c rs before (Ask want) = rs ++ held_by (at_once c rs before want) (asks before + 1) before (wanted_of c want)
 hold_by c rs before (Collect ticket) = rs
 hold_by c rs before (Close ticket) = rs
 hold_by c rs before (Clock ms) = rs
 
-abbrev pub hold : Configuration → List Request → Step → List Request
+abbrev pub hold : Configuration → List Pending → Step → List Pending
 hold c rs s = hold_by c rs s.before s.event
 
 -- the requests that had to wait, in order of asking
-abbrev pub held : Configuration → List Event → List Request
+abbrev pub held : Configuration → List Event → List Pending
 held c events = fold (hold c) [] (steps events)

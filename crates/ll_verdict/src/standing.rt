@@ -32,7 +32,7 @@ impl Standing {
             number: window.next_number(),
             index: window.open_parts().len() as u64,
             end_time: window.end_time(),
-            time: window.clock().div_ceil(1_000),
+            time: window.next_start().div_ceil(1_000),
             ended: window.ended(),
         }
     }

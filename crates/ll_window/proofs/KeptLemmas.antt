@@ -8,7 +8,7 @@ use Rattle.ll_item.specs.declared.part.Part.{Part}
 use Rattle.ll_window.specs.declared.part_position.PartPosition.{PartPosition}
 use Rattle.ll_window.specs.declared.progress.Progress.{Progress}
 use Rattle.ll_window.specs.declared.segment.Segment.{Segment}
-use Rattle.ll_window.specs.Compact.{Compact, clock_by, opens_by}
+use Rattle.ll_window.specs.Compact.{Compact, next_start_by, opens_by}
 use Rattle.ll_window.specs.Hidden.{AreHidden}
 use Rattle.ll_window.specs.Kept.{AreTimed, IsKept, grown, after, spare}
 use Rattle.ll_window.specs.Refusal.{break_refusal, finish_refusal, part_refusal, time_refusal}
@@ -119,9 +119,9 @@ timed-listed near tail time (r ∷ rs) h =
     (omega (arith, e, f, l, h.0), timed-listed near tail time rs h.1)
 
 -- the next part begins where the open segment ends with it
-pub opens-clock : (ps : List Part) (o : Option ℕ) (time : ℕ) → opens_by ps o time + duration ps ≡ clock_by ps o time
-opens-clock [] o time = omega arith
-opens-clock (p ∷ ps) o time = refl
+pub opens-next-start : (ps : List Part) (o : Option ℕ) (time : ℕ) → opens_by ps o time + duration ps ≡ next_start_by ps o time
+opens-next-start [] o time = omega arith
+opens-next-start (p ∷ ps) o time = refl
 
 restarted_zero : (o : Option ℕ) (time dur : ℕ) → dur ≡ 0 → restarted o (time + dur) ≡ restarted o time
 restarted_zero None time dur e = omega (arith, e)
@@ -137,14 +137,14 @@ spare-snoc (q ∷ ps) p = refl
 
 pub kept_open : (c : Configuration) (f : Finished) (ps qs : List Part) (p : Progress) (t : ℕ) (part : Part) (place : PartPosition) → IsKept c f ps p
     → t ≡ opens_by ps p.restart p.open_time
-    → part_refusal c p.next_number (duration ps) (clock_by ps p.restart p.open_time) part.duration ≡ None → qs ≡ ps ++ part ∷ [] → IsKept c f qs (grown p t part.duration place)
+    → part_refusal c p.next_number (duration ps) (next_start_by ps p.restart p.open_time) part.duration ≡ None → qs ≡ ps ++ part ∷ [] → IsKept c f qs (grown p t part.duration place)
 kept_open c f ps qs p t part place k opens allowed more =
     let d = duration-snoc ps part in
     let e = ap duration more in
-    let l = limits c p.next_number (duration ps) (clock_by ps p.restart p.open_time) part.duration allowed in
+    let l = limits c p.next_number (duration ps) (next_start_by ps p.restart p.open_time) part.duration allowed in
     let n = ap spare more in
     let m = spare-snoc ps part in
-    let o = opens-clock ps p.restart p.open_time in
+    let o = opens-next-start ps p.restart p.open_time in
     let late = opens-later ps p.restart p.open_time p.open_duration k.lasts k.forward in
     record {
       sum = k.sum;
@@ -218,12 +218,12 @@ open_number c f (x ∷ xs) p k some = let n = k.numbers in omega (arith, n)
 
 pub kept_finished : (c : Configuration) (w : ℕ) (f g : Finished) (ps qs os : List Part) (p q r : Progress) (t : ℕ) (part : Part) (place : PartPosition) (s : Segment) → IsKept c f ps p
     → t ≡ opens_by ps p.restart p.open_time
-    → part_refusal c p.next_number (duration ps) (clock_by ps p.restart p.open_time) part.duration ≡ None → qs ≡ ps ++ part ∷ [] → q ≡ grown p t part.duration place → r ≡ after q s
+    → part_refusal c p.next_number (duration ps) (next_start_by ps p.restart p.open_time) part.duration ≡ None → qs ≡ ps ++ part ∷ [] → q ≡ grown p t part.duration place → r ≡ after q s
     → os ≡ [] → s ≡ (closing qs q).segment → g.rows.items ≡ window (w * 1000000) (f.rows.items ++ closing qs q ∷ [])
     → g.discontinuity ≡ f.discontinuity + broken_in (gone (w * 1000000) (f.rows.items ++ closing qs q ∷ []))
     → g.lasting ≡ lasting g.rows.items → AreHidden g → (0 < g.far → (0 < f.far) × (g.near_lasting ≡ f.near_lasting + q.open_duration)) → IsKept c g os r
 kept_finished c w f g ps qs os p q r t part place s k opens allowed more grows goes none same items left sum hides goes_far =
-    let l = limits c p.next_number (duration ps) (clock_by ps p.restart p.open_time) part.duration allowed in
+    let l = limits c p.next_number (duration ps) (next_start_by ps p.restart p.open_time) part.duration allowed in
     let n = ap (λ (x : Progress). x.next_number) grows in
     subst (λ x. IsKept c g os x) (sym goes)
     (kept_closed c w f g qs os q s (subst (λ x. IsKept c f qs x) (sym grows) (kept_open c f ps qs p t part place k opens allowed more)) (omega (arith, l.0, n)) none same items left sum hides goes_far)
@@ -352,7 +352,7 @@ told_last c w f g ps qs os p r s k is wide some last goes none same items left =
     ∙ ap (λ xs. after_segment (kept c f xs p)) last ∙ last_by c f ps p some ∙ ap with_finish is
 
 -- a break is pending
-pub kept_break : (c : Configuration) (f : Finished) (ps : List Part) (p : Progress) (o : Option ℕ) → IsKept c f ps p → break_refusal ps (clock_by ps p.restart p.open_time) o ≡ None
+pub kept_break : (c : Configuration) (f : Finished) (ps : List Part) (p : Progress) (o : Option ℕ) → IsKept c f ps p → break_refusal ps (next_start_by ps p.restart p.open_time) o ≡ None
     → IsKept c f ps (record p { pending = true; restart = first_of o p.restart })
 kept_break c f ps p None k allowed = record {
   sum = k.sum;

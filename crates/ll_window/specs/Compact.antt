@@ -56,9 +56,9 @@ compact c items = record {
   ended = ended items;
 }
 
-abbrev pub clock_by : List Part → Option ℕ → ℕ → ℕ
-clock_by [] restart time = restarted restart time
-clock_by (p ∷ ps) restart time = time + duration (p ∷ ps)
+abbrev pub next_start_by : List Part → Option ℕ → ℕ → ℕ
+next_start_by [] restart time = restarted restart time
+next_start_by (p ∷ ps) restart time = time + duration (p ∷ ps)
 
 -- when the segment of the next part begins, in microseconds since 1970-01-01T00:00:00Z
 abbrev pub opens_by : List Part → Option ℕ → ℕ → ℕ
@@ -67,8 +67,8 @@ opens_by (p ∷ ps) restart time = time
 
 -- when the next part begins, in microseconds since 1970-01-01T00:00:00Z: when the last one ends, or at the time that a break after it set
 -- (rule 13)
-abbrev pub clock : Compact → ℕ
-clock k = clock_by k.open_parts k.restart k.open_time
+abbrev pub next_start : Compact → ℕ
+next_start k = next_start_by k.open_parts k.restart k.open_time
 
 -- the map number of the segment that the next part belongs to: how many segments are broken so far, and one more if a break is pending
 -- (rule 12)

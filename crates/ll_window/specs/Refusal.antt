@@ -7,7 +7,7 @@ use Rattle.ll_item.specs.declared.item.Item.TheVariants as item
 use Rattle.ll_item.specs.declared.part.Part.{Part}
 use Rattle.ll_window.specs.declared.fault.WindowFault.{WindowFault}
 use Rattle.ll_window.specs.declared.fault.WindowFault.TheVariants.{Ended, BadDuration, TooLong, OpenSegment, CountEnd, TimeEnd, NoSegment, TimeBack}
-use Rattle.ll_window.specs.Compact.{Compact, clock, compact}
+use Rattle.ll_window.specs.Compact.{Compact, next_start, compact}
 use Rattle.ll_window.specs.Segments.{segments, open_segment, duration, ended}
 
 -- microseconds as the nearest whole seconds, half a second upwards (rule 4)
@@ -42,9 +42,9 @@ finish_refusal (p ∷ ps) = None
 -- the first rule that refuses an item after these items of its rendition, which has not ended
 abbrev pub refusal_before_end : Configuration → List Item → Item → Option WindowFault
 refusal_before_end c before (item.Part part) =
-    part_refusal c (c.first + length (segments before)) (duration (open_segment before)) (clock (compact c before)) part.duration
+    part_refusal c (c.first + length (segments before)) (duration (open_segment before)) (next_start (compact c before)) part.duration
 refusal_before_end c before (item.Finish rendition) = finish_refusal (open_segment before)
-refusal_before_end c before (item.Break rendition time) = break_refusal (open_segment before) (clock (compact c before)) time
+refusal_before_end c before (item.Break rendition time) = break_refusal (open_segment before) (next_start (compact c before)) time
 refusal_before_end c before (item.Init rendition media) = None
 refusal_before_end c before (item.End rendition) = None
 refusal_before_end c before (item.Range rendition id attributes) = None
@@ -61,9 +61,9 @@ refusal c before item = refusal_by (ended before) (refusal_before_end c before i
 
 -- the first rule that refuses an item after those of which `k` is kept, if the rendition has not ended
 abbrev pub refusal_going_on : Compact → Item → Option WindowFault
-refusal_going_on k (item.Part part) = part_refusal k.settings k.next_number (duration k.open_parts) (clock k) part.duration
+refusal_going_on k (item.Part part) = part_refusal k.settings k.next_number (duration k.open_parts) (next_start k) part.duration
 refusal_going_on k (item.Finish rendition) = finish_refusal k.open_parts
-refusal_going_on k (item.Break rendition time) = break_refusal k.open_parts (clock k) time
+refusal_going_on k (item.Break rendition time) = break_refusal k.open_parts (next_start k) time
 refusal_going_on k (item.Init rendition media) = None
 refusal_going_on k (item.End rendition) = None
 refusal_going_on k (item.Range rendition id attributes) = None

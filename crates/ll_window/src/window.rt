@@ -4,7 +4,7 @@ ghost use Rattle.std.specs.Arc.{arc_value};
 ghost use Rattle.std.specs.Option.{option_map};
 ghost use Rattle.ll_item.specs.declared.item.Item.{Item};
 ghost use Rattle.ll_attr.specs.YearEnd.{last_micro};
-ghost use Rattle.ll_window.specs.Compact.{clock, compact, opens_by, first_map, map_now, unfinished};
+ghost use Rattle.ll_window.specs.Compact.{next_start, compact, opens_by, first_map, map_now, unfinished};
 ghost use Rattle.ll_window.specs.Compact as kept;
 ghost use Rattle.ll_window.specs.Refusal.{refusal, refusal_after, part_refusal, break_refusal, finish_refusal, time_refusal};
 ghost use Rattle.ll_window.specs.Segments.{duration};
@@ -294,18 +294,18 @@ impl Window {
 
     /// Returns the rule that refuses a break between segments which sets `time`, in milliseconds since 1970-01-01T00:00:00Z.
     fn time_fault(&self, time: Option<u64>) -> Option<WindowFault>
-        ensures { result ≡ time_refusal (clock self.now) time }
+        ensures { result ≡ time_refusal (next_start self.now) time }
     {
         match time {
-            Some(ms) if ms.saturating_mul(1_000) < self.clock() => Some(WindowFault::TimeBack),
+            Some(ms) if ms.saturating_mul(1_000) < self.next_start() => Some(WindowFault::TimeBack),
             Some(ms) if LAST_MICRO < ms.saturating_mul(1_000) => Some(WindowFault::TimeEnd),
             _ => None,
         }
     }
 
     /// Returns when the next part begins, in microseconds since 1970-01-01T00:00:00Z: when the last one ends, or at the time that a break after it set.
-    pub fn clock(&self) -> u64
-        ensures value { result ≡ clock self.now }
+    pub fn next_start(&self) -> u64
+        ensures value { result ≡ next_start self.now }
         ensures time { result ≤ last_micro }
     {
         match self.progress.restart {
@@ -326,7 +326,7 @@ impl Window {
 
     /// Returns the first rule that refuses a part of `micros` microseconds.
     fn part_fault(&self, micros: u64) -> Option<WindowFault>
-        ensures { result ≡ part_refusal self.now.settings self.now.next_number (duration self.now.open_parts) (clock self.now) micros }
+        ensures { result ≡ part_refusal self.now.settings self.now.next_number (duration self.now.open_parts) (next_start self.now) micros }
     {
         let (part_target, target) = (self.settings.part_target(), self.settings.target());
         if micros == 0 {
@@ -337,7 +337,7 @@ impl Window {
             Some(WindowFault::TooLong)
         } else if LAST_NUMBER < self.progress.next_number {
             Some(WindowFault::CountEnd)
-        } else if LAST_MICRO < self.clock() + micros {
+        } else if LAST_MICRO < self.next_start() + micros {
             Some(WindowFault::TimeEnd)
         } else {
             None
@@ -378,7 +378,7 @@ impl Window {
 
     /// Adds a part that no rule refuses.
     fn add_part(&mut self, part: Part) -> Result<(), AllocError>
-        requires { part_refusal self.old.settings self.old.next_number (duration self.old.open_parts) (clock self.old) part.duration ≡ None }
+        requires { part_refusal self.old.settings self.old.next_number (duration self.old.open_parts) (next_start self.old) part.duration ≡ None }
         ensures ok { OnOk result (self.new ≡ with_part self.old part) }
         ensures err { OnErr result (self.new ≡ self.old) }
     {
@@ -395,7 +395,7 @@ impl Window {
 
     /// Adds a part that no rule refuses and that is the last of its segment.
     fn finish(&mut self, part: Part) -> Result<(), AllocError>
-        requires { part_refusal self.old.settings self.old.next_number (duration self.old.open_parts) (clock self.old) part.duration ≡ None }
+        requires { part_refusal self.old.settings self.old.next_number (duration self.old.open_parts) (next_start self.old) part.duration ≡ None }
         ensures ok { OnOk result (self.new ≡ with_part_by true self.old part) }
         ensures err { OnErr result (self.new ≡ self.old) }
     {
@@ -420,7 +420,7 @@ impl Window {
 
     /// Adds a break that no rule refuses.
     fn add_break(&mut self, time: Option<u64>)
-        requires { break_refusal self.old.open_parts (clock self.old) time ≡ None }
+        requires { break_refusal self.old.open_parts (next_start self.old) time ≡ None }
         ensures { self.new ≡ with_break self.old time }
     {
         self.progress.pending = true;

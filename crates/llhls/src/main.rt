@@ -8,8 +8,8 @@
 use ll_attr::Text;
 use ll_command::Fault;
 use ll_opening::Stop;
-use ll_push::Ending as Published;
-use ll_run::{Ending, called, publish_job};
+use ll_push::Ending;
+use ll_run::{Exit, called, publish_job};
 use ll_server::serve;
 use std::io::IsTerminal;
 use std::marker::Brand;
@@ -24,14 +24,14 @@ const REFUSED: u8 = 3;
 
 fn main(rt: HostRuntime) -> ExitCode {
     let done = match called(&rt) {
-        Ok(Ending::Done) => Ok(ExitCode::SUCCESS),
-        Ok(Ending::BadRecord) => Ok(ExitCode::from(BAD_RECORD)),
-        Ok(Ending::Refused(answer)) => Ok(refused(&rt, &answer)),
-        Ok(Ending::Serve(settings)) => match serve(&rt, rt.alloc(), &settings) {
+        Ok(Exit::Done) => Ok(ExitCode::SUCCESS),
+        Ok(Exit::BadRecord) => Ok(ExitCode::from(BAD_RECORD)),
+        Ok(Exit::Refused(answer)) => Ok(refused(&rt, &answer)),
+        Ok(Exit::Serve(settings)) => match serve(&rt, rt.alloc(), &settings) {
             Ok(()) => Ok(ExitCode::SUCCESS),
             Err(stop) => stopped(stop),
         },
-        Ok(Ending::Push(job)) => {
+        Ok(Exit::Push(job)) => {
             let input = (rt.stdin(), rt.stderr().is_terminal());
             match publish_job::<Brand, Brand, HostRuntime>(
                 &rt,
@@ -41,8 +41,8 @@ fn main(rt: HostRuntime) -> ExitCode {
                 Blank::new(2),
                 Blank::new(2),
             ) {
-                Ok(Published::Whole) => Ok(ExitCode::SUCCESS),
-                Ok(Published::Refused(answer)) => Ok(refused(&rt, &answer)),
+                Ok(Ending::Whole) => Ok(ExitCode::SUCCESS),
+                Ok(Ending::Refused(answer)) => Ok(refused(&rt, &answer)),
                 Err(fault) => Err(fault),
             }
         }

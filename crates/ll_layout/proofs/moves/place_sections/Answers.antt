@@ -6,7 +6,7 @@ use Rattle.std.specs.Vec.Iter.{into_iter_items, into_iter_len}
 use Rattle.ll_layout.proofs.MoveLemmas.{placed-end, size-snoc}
 use Rattle.ll_layout.specs.Held.{sections_size}
 use Rattle.ll_layout.specs.Moves.{placed}
-use Rattle.ll_layout.specs.declared.stored.Section.{Section}
+use Rattle.ll_layout.specs.declared.stored.StoredSection.{StoredSection}
 use Rattle.ll_layout.proofs.moves.place_sections.Goals as goal
 
 pub loop-section-preserved : goal.loop-section-preserved
@@ -32,4 +32,4 @@ returns c =
     let long : into_iter_len c.into_iter-section-iterator.result ≡ length items = search rules in
     let t = YieldsList-end (YieldsList-from_vec items same long) c.loop-section.yielded c.loop-section.section-iterator c.loop-section.yielded_by c.next.result c.next.new.self c.in-None.is c.next.ensures.steps in
     let all : c.loop-section.yielded ≡ items = all-of c.loop-section.yielded ∙ t.0 in
-    (c.loop-section.invariant.0 ∙ ap (placed c.args.side 0) all, c.loop-section.invariant.1 ∙ ap (λ (ss : List Section). sections_size ss) all)
+    (c.loop-section.invariant.0 ∙ ap (placed c.args.side 0) all, c.loop-section.invariant.1 ∙ ap (λ (ss : List StoredSection). sections_size ss) all)

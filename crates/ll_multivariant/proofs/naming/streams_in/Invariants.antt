@@ -5,7 +5,7 @@ use Rattle.ll_multivariant.proofs.naming.streams_in.Given as goal
 
 abbrev pub invariant-sources : goal.invariant-sources
 invariant-sources l = record {
-  same : streams_after [] (streams_in l.fn.settings l.fn.pieces 0 l.fn.sources) ≡ streams_after l.streams.items (streams_in l.fn.settings l.fn.pieces l.number l.left);
+  same : streams_after [] (streams_in l.fn.settings l.fn.additions 0 l.fn.sources) ≡ streams_after l.streams.items (streams_in l.fn.settings l.fn.additions l.number l.left);
   few : l.number + length l.left ≡ length l.fn.sources;
 }
 

@@ -1,7 +1,7 @@
 -- The open segment goes on.
 use Rattle.std.proofs.Common.{ap, subst, sym, ◌∙◌}
 use Rattle.std.specs.Arc.{arc_value}
-use Rattle.ll_window.specs.Compact.{clock, opens_by}
+use Rattle.ll_window.specs.Compact.{next_start, opens_by}
 use Rattle.ll_window.specs.Refusal.{part_refusal}
 use Rattle.ll_window.specs.Segments.{duration}
 use Rattle.ll_window.specs.Step.{relisted, with_part_by}
@@ -22,5 +22,5 @@ invariant_of-self-else-part c =
     subst (λ x. IsKept (arc_value c.self.inside.settings) c.self.inside.finished c.push.new.self.items x) (sym c.with_part-self-inside.ensures)
     (kept_open (arc_value c.self.inside.settings) c.self.inside.finished c.self.inside.open_parts.items c.push.new.self.items c.self.inside.progress c.begun-begun.result c.args.part c.next_place-place.result
     c.self.invariant (c.begun-begun.ensures ∙ ap (λ k. opens_by k.open_parts k.restart k.open_time) (sym c.self.view_is))
-    (ap (λ k. part_refusal k.settings k.next_number (duration k.open_parts) (clock k) c.args.part.duration) c.self.view_is ∙ c.requires)
+    (ap (λ k. part_refusal k.settings k.next_number (duration k.open_parts) (next_start k) c.args.part.duration) c.self.view_is ∙ c.requires)
     c.in_ok-push.ensures.items)
