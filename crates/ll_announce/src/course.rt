@@ -129,7 +129,11 @@ impl Course {
     {
         let time = from_millis(now);
         if self.place.end != 0 {
-            Some(if time < self.next_start { None } else { Some(now) })
+            Some(if time < self.next_start {
+                None
+            } else {
+                Some(now)
+            })
         } else if self.next_start.saturating_add(part) < time {
             Some(Some(now))
         } else {

@@ -15,4 +15,4 @@ mod spelling;
 mod track;
 
 pub use section::{Section, read_section};
-pub use track::{Picture, CodecTrack};
+pub use track::{CodecTrack, Picture};

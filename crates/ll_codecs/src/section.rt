@@ -2,7 +2,7 @@
 ghost use Rattle.std.specs.Prelude.{◌≡◌, ◌⊎◌, MatchResult, Ok, Err};
 ghost use Rattle.ll_codecs.specs.Sections as spec;
 
-use crate::track::{Picture, CodecTrack, read_tracks};
+use crate::track::{CodecTrack, Picture, read_tracks};
 use ll_mp4::{Kind, StreamFault, only, read_movie};
 use std::alloc::Global;
 use std::marker::Model;

@@ -4,7 +4,7 @@ ghost use Rattle.ll_command.specs.Status.{status_of};
 ghost use Rattle.ll_command.specs.Status as spec;
 
 use ll_apply::ApplyFault;
-use ll_check::{RecordReadFault, RecordFault};
+use ll_check::{RecordFault, RecordReadFault};
 use ll_entry::{CheckFault, CheckKind};
 use ll_push::PushFault;
 use ll_replay::RunFault;

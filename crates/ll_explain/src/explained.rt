@@ -8,7 +8,7 @@ ghost use Rattle.ll_explain.specs.Explained.{HasNoEntry, IsExplained};
 ghost use Rattle.ll_explain.specs.Seeking.{time_told};
 
 use ll_attr::Text;
-use ll_check::{Reached, EntryReply, RecordFault, Told, Visitor, go_to};
+use ll_check::{EntryReply, Reached, RecordFault, Told, Visitor, go_to};
 use ll_device::Reader;
 use ll_entry_check::FullEntry;
 use ll_verdict::Reply;

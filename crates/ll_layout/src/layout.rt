@@ -18,7 +18,7 @@ use crate::moves::{
     push_sections, set,
 };
 use crate::side::Side;
-use crate::stored::{KeptPart, Extent, StoredSection, StoredItem};
+use crate::stored::{Extent, KeptPart, StoredItem, StoredSection};
 use ll_item::{Item, PartItem};
 use ll_settings::Settings;
 use ll_window::Window;

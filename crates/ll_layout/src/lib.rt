@@ -12,4 +12,4 @@ pub use bytes::media_of;
 pub use fault::AddFault;
 pub use layout::Layout;
 pub use side::Side;
-pub use stored::{Extent, StoredSection, StoredItem};
+pub use stored::{Extent, StoredItem, StoredSection};

@@ -10,7 +10,7 @@ ghost use Rattle.ll_window.specs.Refusal.{refusal};
 
 use crate::fault::AddFault;
 use crate::side::Side;
-use crate::stored::{KeptPart, Extent, StoredSection, StoredItem};
+use crate::stored::{Extent, KeptPart, StoredItem, StoredSection};
 use ll_item::Item;
 use ll_window::{PushError, Window};
 use std::alloc::{AllocError, Global};
@@ -76,7 +76,10 @@ pub(crate) fn drop_before(parts: &mut VecDeque<KeptPart>, first: u64)
 }
 
 /// Adds `section`, which replaces an earlier one with its map number.
-pub(crate) fn set(sections: &mut Vec<StoredSection>, section: StoredSection) -> Result<(), AllocError>
+pub(crate) fn set(
+    sections: &mut Vec<StoredSection>,
+    section: StoredSection,
+) -> Result<(), AllocError>
     ensures set { OnOk result (sections.new.items ≡ spec.and_section section sections.old.items) }
     ensures kept { OnErr result (sections.new.items ≡ spec.but_map section.map sections.old.items) }
 {
@@ -152,7 +155,10 @@ pub(crate) fn push_parts(
 }
 
 /// Appends the places of the bytes of `sections` to `out`.
-pub(crate) fn push_sections(sections: &[StoredSection], out: &mut Vec<StoredItem>) -> Result<(), AllocError>
+pub(crate) fn push_sections(
+    sections: &[StoredSection],
+    out: &mut Vec<StoredItem>,
+) -> Result<(), AllocError>
     ensures { OnOk result (out.new.items ≡ out.old.items ++ map (λ (s : SectionValue). s.stored) sections.now) }
 {
     for section in sections {

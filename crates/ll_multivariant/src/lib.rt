@@ -2,10 +2,10 @@
 //! draft-pantos-hls-rfc8216bis).
 #![tactic(auto)]
 
+mod addition;
 mod fault;
 mod kept;
 mod naming;
-mod addition;
 mod written;
 
 pub use fault::MultivariantFault;

@@ -7,7 +7,7 @@ use ll_attr::Text;
 use ll_command::{Fault, Plan};
 use ll_device::{Reader, Source};
 use ll_pair::{Carried, Fed, Outlets, Pair, Taker, carry, feed};
-use ll_push::{StandingAnswer, Calendar, Ending, PushFault, Target, ask};
+use ll_push::{Calendar, Ending, PushFault, StandingAnswer, Target, ask};
 use ll_socket::{Address, Connector};
 use std::alloc::{AllocError, Global};
 use std::net::{Net, TcpListener, TcpStream};

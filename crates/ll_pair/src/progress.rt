@@ -10,7 +10,7 @@ use crate::coming::{Coming, First};
 use ll_announce::{Names, Place};
 use ll_attr::Text;
 use ll_device::Link;
-use ll_push::{StandingAnswer, Delivery, PushFault, Watch, ask, deliver};
+use ll_push::{Delivery, PushFault, StandingAnswer, Watch, ask, deliver};
 use std::alloc::Global;
 
 /// How far an origin is known to be.

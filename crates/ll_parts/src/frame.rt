@@ -87,7 +87,12 @@ impl Frame<'_> {
 
     /// Appends to `out` the pieces between a run with these `times` and the next: none if nothing comes after it, else a break and the initialization
     /// section.
-    pub(crate) fn end(&self, times: &Times, next: Next, out: &mut PieceQueue) -> Result<(), AllocError>
+    pub(crate) fn end(
+        &self,
+        times: &Times,
+        next: Next,
+        out: &mut PieceQueue,
+    ) -> Result<(), AllocError>
         requires { is_counted self.now.heading.now.scale (place_of next) ≡ true }
         ensures { IfOk result (λ _. out.new ≡ out.old ++ ending self.now.heading.now times.now next) }
     {

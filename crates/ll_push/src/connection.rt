@@ -54,7 +54,11 @@ pub enum StandingAnswer {
 /// # Errors
 ///
 /// `BadAnswer` if what came isn't an answer to that; `Memory`.
-pub fn ask<P: Link>(alloc: Global, names: &Names<'_>, link: &mut P) -> Result<StandingAnswer, PushFault>
+pub fn ask<P: Link>(
+    alloc: Global,
+    names: &Names<'_>,
+    link: &mut P,
+) -> Result<StandingAnswer, PushFault>
     ensures asked { IfOk result (IsAskedSo (messages.question (named names.now)) (link_value P.written P.inward P.failures link.old) (link_value P.written P.inward P.failures link.new)) }
     ensures own { IfErr result IsOwn }
     ensures unanswered { IsErrOf result PushFault.BadAnswer

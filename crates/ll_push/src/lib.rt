@@ -12,7 +12,7 @@ mod target;
 mod watch;
 
 pub use calendar::Calendar;
-pub use connection::{StandingAnswer, Delivery, ask, deliver};
+pub use connection::{Delivery, StandingAnswer, ask, deliver};
 pub use connections::{Ending, push};
 pub use fault::PushFault;
 pub use laws::{answer_law, publication_law};

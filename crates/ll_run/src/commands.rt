@@ -154,11 +154,7 @@ fn open<L: Ledger>(
 
 /// Returns the ending for a record that is `right`, or isn't.
 fn ending_of(right: bool) -> Exit {
-    if right {
-        Exit::Done
-    } else {
-        Exit::BadRecord
-    }
+    if right { Exit::Done } else { Exit::BadRecord }
 }
 
 /// Returns what is published, and where, according to the words of a push.

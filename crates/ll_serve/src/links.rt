@@ -139,7 +139,12 @@ fn share_out<
     S: Source<Peer = P>,
     W: Serves<L, P> + Sync,
     R: Threads + Wait + Sync,
->(pool: &WorkerPool<'_, P, W, R>, to: Sender<P>, source: &mut S, given: Vec<Pass<L>>) -> Vec<Pass<L>>
+>(
+    pool: &WorkerPool<'_, P, W, R>,
+    to: Sender<P>,
+    source: &mut S,
+    given: Vec<Pass<L>>,
+) -> Vec<Pass<L>>
     ensures { length result.items ≡ length given.items }
 {
     let mut passes = given;

@@ -10,5 +10,5 @@ mod unix;
 
 pub use address::Address;
 pub use connector::Connector;
-pub use listener::{Listener, BindAddress};
+pub use listener::{BindAddress, Listener};
 pub use socket::Socket;

@@ -8,7 +8,7 @@ ghost use Rattle.ll_spool.specs.Files.{AreRestSame, IsChanged, IsHeldIn, IsReadA
 use crate::disk::Disk;
 use crate::fault::NotKept;
 use ll_item::Item;
-use ll_layout::{Layout, Extent, StoredSection, Side, media_of};
+use ll_layout::{Extent, Layout, Side, StoredSection, media_of};
 use std::alloc::Global;
 
 /// Writes the bytes of `item`, the item of the number `count` in its channel, to the files of its rendition, and adds it to `layout`.

@@ -13,7 +13,7 @@ use crate::lines::{Lines, cut_line};
 use crate::spool::Spool;
 use ll_entry::settings_text;
 use ll_item::{Item, Media, Payload};
-use ll_layout::{AddFault, Layout, Extent, StoredItem};
+use ll_layout::{AddFault, Extent, Layout, StoredItem};
 use ll_settings::Settings;
 use std::alloc::{AllocError, Global};
 
