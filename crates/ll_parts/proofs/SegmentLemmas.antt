@@ -16,7 +16,7 @@ use Rattle.ll_mp4.specs.declared.timing.Timing.{Timing}
 use Rattle.ll_parts.proofs.PartLemmas.{not-long, or-right}
 use Rattle.ll_parts.specs.Joined.{Joining, Taken, begun, beside, first_time, first_times, heard, held_of, on_stage, over, refusal, refusal_beside, with_part}
 use Rattle.ll_runs.specs.Refusals.{is_long, refusal_at, refusal_by, refusal_of}
-use Rattle.ll_parts.specs.Laws.{GoOn, GoesOn, SegmentsFit, open_after}
+use Rattle.ll_parts.specs.Laws.{AreAllowed, IsAllowed, SegmentsFit, open_after}
 use Rattle.ll_parts.specs.Pieces.{ending, part_of}
 use Rattle.ll_parts.specs.Prompt.{Parted, finish, parted, said_between}
 use Rattle.ll_runs.specs.Prompt.{comes_at, end_of_parts, finishes, is_open, is_past, leaves_gap, next_after, part_end, part_lasts, times_at}
@@ -38,13 +38,13 @@ use Rattle.ll_runs.specs.declared.times.Times.{Times}
 -- from a segment of one duration to one of another
 abbrev Goes : ℕ → ℕ → List Piece → ℕ → Type 0
 Goes most n [] m = n ≡ m
-Goes most n (piece ∷ pieces) m = GoesOn most n piece × Goes most (open_after n piece) pieces m
+Goes most n (piece ∷ pieces) m = IsAllowed most n piece × Goes most (open_after n piece) pieces m
 
 goes-on : (most n : ℕ) (xs ys : List Piece) (m k : ℕ) → Goes most n xs m → Goes most m ys k → Goes most n (xs ++ ys) k
 goes-on most n [] ys m k a b = subst (λ n. Goes most n ys k) (sym a) b
 goes-on most n (x ∷ xs) ys m k (step, rest) b = (step, goes-on most (open_after n x) xs ys m k rest b)
 
-all-go : (most n : ℕ) (xs : List Piece) → Goes most n xs 0 → GoOn most n xs
+all-go : (most n : ℕ) (xs : List Piece) → Goes most n xs 0 → AreAllowed most n xs
 all-go most n [] a = a
 all-go most n (x ∷ xs) (step, rest) = (step, all-go most (open_after n x) xs rest)
 
@@ -252,7 +252,7 @@ fold-stands : (l : Lengths) (p : Progress) (units : List (List ℕ)) → IsPromp
 fold-stands l p [] prompt stands = stands
 fold-stands l p (unit ∷ units) prompt stands = fold-stands l (advanced p unit) units prompt (from-stands l p unit p.fault prompt stands)
 
-ended-goes : (l : Lengths) (p : Progress) (fault end : Option StreamFault) → ProgressGoes l p → Whole l p.pieces fault → GoOn l.most 0 (ended_by p fault end).pieces
+ended-goes : (l : Lengths) (p : Progress) (fault end : Option StreamFault) → ProgressGoes l p → Whole l p.pieces fault → AreAllowed l.most 0 (ended_by p fault end).pieces
 ended-goes l p (Some fault) end goes whole = all-go l.most 0 p.pieces whole
 ended-goes l p None end goes whole = all-go l.most 0 (all_pieces p) (all-goes l p goes)
 

@@ -51,19 +51,19 @@ open_after n (Break since) = n
 
 -- a piece is allowed after n microseconds of an open segment: a part makes it no longer than `most`, a finish
 -- ends an open one, and all else comes after its end
-abbrev pub GoesOn : ℕ → ℕ → Piece → Type 0
-GoesOn most n (Begin section) = n ≡ 0
-GoesOn most n (Init section) = n ≡ 0
-GoesOn most n (Media part) = n + part.duration ≤ most
-GoesOn most n Finish = 0 < n
-GoesOn most n (Break since) = n ≡ 0
+abbrev pub IsAllowed : ℕ → ℕ → Piece → Type 0
+IsAllowed most n (Begin section) = n ≡ 0
+IsAllowed most n (Init section) = n ≡ 0
+IsAllowed most n (Media part) = n + part.duration ≤ most
+IsAllowed most n Finish = 0 < n
+IsAllowed most n (Break since) = n ≡ 0
 
-abbrev pub GoOn : ℕ → ℕ → List Piece → Type 0
-GoOn most n [] = n ≡ 0
-GoOn most n (piece ∷ pieces) = GoesOn most n piece × GoOn most (open_after n piece) pieces
+abbrev pub AreAllowed : ℕ → ℕ → List Piece → Type 0
+AreAllowed most n [] = n ≡ 0
+AreAllowed most n (piece ∷ pieces) = IsAllowed most n piece × AreAllowed most (open_after n piece) pieces
 
 -- if parts don't wait, each segment of a stream ends, and none is longer than the longest allowed
 abbrev pub SegmentsFit : Type 0
 SegmentsFit =
     (lengths : Lengths) (end : ℕ) (input : List ℕ) → lengths.ahead ≡ false → lengths.part ≤ lengths.most
-    → GoOn lengths.most 0 (published lengths end input).pieces
+    → AreAllowed lengths.most 0 (published lengths end input).pieces

@@ -11,7 +11,7 @@ use Rattle.ll_player.specs.Asking.{IsReplyTo}
 use Rattle.ll_player.specs.Playing.{IsCutShort, IsPlaying, Moment, moment}
 use Rattle.ll_player.specs.Reading.{HasCome, stays_or_ends}
 use Rattle.ll_player.specs.Sending.{HasSent, More, Unsent}
-use Rattle.ll_player.specs.Steps.{BreaksOff, GoesOn, IsHalfTurn, IsTurn, Nothing, Overflows, Told, Waits}
+use Rattle.ll_player.specs.Steps.{BreaksOff, PlaysOn, IsHalfTurn, IsTurn, Nothing, Overflows, Told, Waits}
 use Rattle.ll_player.proofs.CutLemmas.{cut-half, cut-now, cut-reading, cut-same}
 use Rattle.ll_player.proofs.PlayLemmas.{playing-collected, playing-gone, playing-sent, playing-turn}
 use Rattle.ll_player.proofs.SessionLemmas.{fed-waits, taken}
@@ -24,59 +24,59 @@ use Rattle.ll_wire.specs.declared.answer.Answer.{Answer}
 
 module _ (shows : ℕ → Type 0) (hub : List Configuration) (start : Moment) where
   pub goes-sent : (inward after : Inward) (base : Option (List ℕ)) (old : SessionValue) (claim : Option ClaimValue) (pass : PassValue) (written : Option (List ℕ)) (new : SessionValue)
-      → GoesOn shows hub start (moment inward base old claim pass) → after ≡ inward → HasSent base old written new → GoesOn shows hub start (moment after written new claim pass)
+      → PlaysOn shows hub start (moment inward base old claim pass) → after ≡ inward → HasSent base old written new → PlaysOn shows hub start (moment after written new claim pass)
   goes-sent inward after base old claim pass written new goes same s =
       λ alone o p.
       subst (λ (i : Inward). IsPlaying shows hub alone o (moment i written new claim pass)) (sym same)
       (playing-sent shows hub alone o inward base old claim pass written new (goes alone o p) s)
 
   pub goes-turn : (inward : Inward) (written : Option (List ℕ)) (old new : SessionValue) (claim : Option ClaimValue) (pass now : PassValue)
-      → GoesOn shows hub start (moment inward written old None pass) → IsTurn shows hub pass now old new claim → GoesOn shows hub start (moment inward written new claim now)
+      → PlaysOn shows hub start (moment inward written old None pass) → IsTurn shows hub pass now old new claim → PlaysOn shows hub start (moment inward written new claim now)
   goes-turn inward written old new claim pass now goes turn = λ alone o p. playing-turn shows hub alone o inward written old new claim pass now (goes alone o p) turn
 
   pub goes-as : (inward : Inward) (written : Option (List ℕ)) (session : SessionValue) (claim other : Option ClaimValue) (pass : PassValue)
-      → GoesOn shows hub start (moment inward written session claim pass) → claim ≡ other → GoesOn shows hub start (moment inward written session other pass)
-  goes-as inward written session claim other pass goes same = subst (λ c. GoesOn shows hub start (moment inward written session c pass)) same goes
+      → PlaysOn shows hub start (moment inward written session claim pass) → claim ≡ other → PlaysOn shows hub start (moment inward written session other pass)
+  goes-as inward written session claim other pass goes same = subst (λ c. PlaysOn shows hub start (moment inward written session c pass)) same goes
 
   pub breaks-now : (inward : Inward) (written : Option (List ℕ)) (session : SessionValue) (claim : Option ClaimValue) (pass : PassValue)
-      → GoesOn shows hub start (moment inward written session claim pass) → BreaksOff shows hub start inward written pass
+      → PlaysOn shows hub start (moment inward written session claim pass) → BreaksOff shows hub start inward written pass
   breaks-now inward written session claim pass goes = λ alone o p. cut-same shows hub alone o inward written session claim pass (goes alone o p)
 
   pub breaks-half : (inward : Inward) (written : Option (List ℕ)) (old new : SessionValue) (pass now : PassValue)
-      → GoesOn shows hub start (moment inward written old None pass) → IsHalfTurn pass now old new → BreaksOff shows hub start inward written now
+      → PlaysOn shows hub start (moment inward written old None pass) → IsHalfTurn pass now old new → BreaksOff shows hub start inward written now
   breaks-half inward written old new pass now goes half = λ alone o p. cut-half shows hub alone o inward written old new pass now (goes alone o p) half
 
   pub breaks-later : (inward after : Inward) (base written : Option (List ℕ)) (session : SessionValue) (claim : Option ClaimValue) (pass now : PassValue)
-      → GoesOn shows hub start (moment inward base session claim pass) → after ≡ inward → written ≡ base → IsPrefix pass.history now.history → BreaksOff shows hub start after written now
+      → PlaysOn shows hub start (moment inward base session claim pass) → after ≡ inward → written ≡ base → IsPrefix pass.history now.history → BreaksOff shows hub start after written now
   breaks-later inward after base written session claim pass now goes same kept grows =
       λ alone o p.
       subst (λ (w : Option (List ℕ)). IsCutShort shows hub alone o after w now) (sym kept)
       (subst (λ (i : Inward). IsCutShort shows hub alone o i base now) (sym same) (cut-now shows hub alone o inward base session claim pass now (goes alone o p) grows))
 
   pub breaks-reading : (inward after : Inward) (base written : Option (List ℕ)) (session : SessionValue) (claim : Option ClaimValue) (pass : PassValue) (more found : ℕ)
-      (came : List ℕ) → GoesOn shows hub start (moment inward base session claim pass) → after ≡ looked_at more found came inward → written ≡ base
+      (came : List ℕ) → PlaysOn shows hub start (moment inward base session claim pass) → after ≡ looked_at more found came inward → written ≡ base
       → BreaksOff shows hub start after written pass
   breaks-reading inward after base written session claim pass more found came goes read kept =
       λ alone o p.
       subst (λ (w : Option (List ℕ)). IsCutShort shows hub alone o after w pass) (sym kept)
       (cut-reading shows hub alone o inward after base session claim pass pass more found came (goes alone o p) read (prefix-self pass.history))
 
-  pub breaks-then : (mid : Moment) (inward : Inward) (written : Option (List ℕ)) (pass : PassValue) → GoesOn shows hub start mid → BreaksOff shows hub mid inward written pass
+  pub breaks-then : (mid : Moment) (inward : Inward) (written : Option (List ℕ)) (pass : PassValue) → PlaysOn shows hub start mid → BreaksOff shows hub mid inward written pass
       → BreaksOff shows hub start inward written pass
   breaks-then mid inward written pass goes breaks = λ alone o p. breaks alone o (goes alone o p)
 
   -- a request is held
   pub goes-held : {T : Type 0} (claim : T → ClaimValue) (read : Option T) (held : T) (first inward : Inward) (base written : Option (List ℕ)) (old session : SessionValue)
-      (before pass : PassValue) → GoesOn shows hub start (moment first base old None before)
-      → GoesOn shows hub (moment first base old None before) (moment inward written session (option_map claim read) pass) → read ≡ Some held
-      → GoesOn shows hub start (moment inward written session (Some (claim held)) pass)
+      (before pass : PassValue) → PlaysOn shows hub start (moment first base old None before)
+      → PlaysOn shows hub (moment first base old None before) (moment inward written session (option_map claim read) pass) → read ≡ Some held
+      → PlaysOn shows hub start (moment inward written session (Some (claim held)) pass)
   goes-held claim read held first inward base written old session before pass goes then is =
       λ alone o p.
       subst (λ r. IsPlaying shows hub alone o (moment inward written session (option_map claim r) pass)) is (then alone o (goes alone o p))
 
   pub goes-gone : (inward after : Inward) (base written : Option (List ℕ)) (session : SessionValue) (claim : ClaimValue) (pass now : PassValue)
-      → GoesOn shows hub start (moment inward base session (Some claim) pass) → after ≡ looked_at 0 1 [] inward → written ≡ base → now ≡ pass
-      → GoesOn shows hub start (moment after written session None now)
+      → PlaysOn shows hub start (moment inward base session (Some claim) pass) → after ≡ looked_at 0 1 [] inward → written ≡ base → now ≡ pass
+      → PlaysOn shows hub start (moment after written session None now)
   goes-gone inward after base written session claim pass now goes read kept same =
       λ alone o p.
       subst (λ (x : PassValue). IsPlaying shows hub alone o (moment after written session None x)) (sym same)
@@ -84,8 +84,8 @@ module _ (shows : ℕ → Type 0) (hub : List Configuration) (start : Moment) wh
       (playing-gone shows hub alone o inward after base session claim pass (goes alone o p) read))
 
   pub goes-collected : (inward after : Inward) (base written : Option (List ℕ)) (old new : SessionValue) (channels : List Configuration) (claim : ClaimValue) (told : Answer)
-      (pass now : PassValue) → GoesOn shows hub start (moment inward base old (Some claim) pass) → after ≡ inward → written ≡ base → channels ≡ hub
-      → IsReplyTo channels claim pass now told → new ≡ replied old told → GoesOn shows hub start (moment after written new None now)
+      (pass now : PassValue) → PlaysOn shows hub start (moment inward base old (Some claim) pass) → after ≡ inward → written ≡ base → channels ≡ hub
+      → IsReplyTo channels claim pass now told → new ≡ replied old told → PlaysOn shows hub start (moment after written new None now)
   goes-collected inward after base written old new channels claim told pass now goes same kept on reply put =
       λ alone o p.
       subst (λ (i : Inward). IsPlaying shows hub alone o (moment i written new None now)) (sym same)
@@ -94,8 +94,8 @@ module _ (shows : ℕ → Type 0) (hub : List Configuration) (start : Moment) wh
       (subst (λ x. IsReplyTo x claim pass now told) on reply) put))
 
   pub goes-came : (inward after : Inward) (base written : Option (List ℕ)) (old new : SessionValue) (pass : PassValue) (came : Bool)
-      → GoesOn shows hub start (moment inward base old None pass) → old.shut ≡ false → HasCome came inward after old new → written ≡ base
-      → GoesOn shows hub start (moment after written new None pass)
+      → PlaysOn shows hub start (moment inward base old None pass) → old.shut ≡ false → HasCome came inward after old new → written ≡ base
+      → PlaysOn shows hub start (moment after written new None pass)
   goes-came inward after base written old new pass came goes unshut read kept =
       λ alone o p.
       subst (λ (w : Option (List ℕ)). IsPlaying shows hub alone o (moment after w new None pass)) (sym kept)

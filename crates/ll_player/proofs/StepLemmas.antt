@@ -7,7 +7,7 @@ use Rattle.ll_player.specs.Asking.{IsReplyTo}
 use Rattle.ll_player.specs.Connections.{ConnectionValue, Fails, HasCollected, HasLost, IsOn, Steps, moment_of}
 use Rattle.ll_player.specs.Playing.{IsCutShort, IsPlayed, IsPlaying, Opening, moment}
 use Rattle.ll_player.specs.Reading.{Came, Ended, HasCome, IsDrained, IsFed}
-use Rattle.ll_player.specs.Steps.{BreaksOff, GoesOn}
+use Rattle.ll_player.specs.Steps.{BreaksOff, PlaysOn}
 use Rattle.ll_service.specs.Reads.{HasEnded}
 use Rattle.ll_player.proofs.CutLemmas.{cut-now}
 use Rattle.ll_player.proofs.PlayLemmas.{playing-collected, playing-fed, playing-first, playing-looked}
@@ -52,11 +52,11 @@ module _ (shows : ℕ → Type 0) (hub : List Configuration) (alone : Bool) (o :
 -- ---- a connection as a value
 
 module _ (shows : ℕ → Type 0) (hub : List Configuration) where
-  pub steps-then : (old mid new : ConnectionValue) (before seen after : PassValue) → GoesOn shows hub (moment_of old before) (moment_of mid seen)
+  pub steps-then : (old mid new : ConnectionValue) (before seen after : PassValue) → PlaysOn shows hub (moment_of old before) (moment_of mid seen)
       → Steps shows hub seen after mid new → Steps shows hub before after old new
   steps-then old mid new before seen after first s = record { plays = λ alone o p. s.plays alone o (first alone o p); on = s.on }
 
-  pub fails-then : (old mid new : ConnectionValue) (before seen after : PassValue) → GoesOn shows hub (moment_of old before) (moment_of mid seen)
+  pub fails-then : (old mid new : ConnectionValue) (before seen after : PassValue) → PlaysOn shows hub (moment_of old before) (moment_of mid seen)
       → Fails shows hub seen after mid new → Fails shows hub before after old new
   fails-then old mid new before seen after first f = λ alone o p. f alone o (first alone o p)
 
@@ -66,7 +66,7 @@ module _ (shows : ℕ → Type 0) (hub : List Configuration) where
   claimed old claim channels is = ap (option_map (λ (held : ClaimValue × List Configuration). held.0)) is
 
   -- the reply that was held is collected
-  pub collects : (old new : ConnectionValue) (before after : PassValue) → IsOn hub old → HasCollected before after old new → GoesOn shows hub (moment_of old before) (moment_of new after)
+  pub collects : (old new : ConnectionValue) (before after : PassValue) → IsOn hub old → HasCollected before after old new → PlaysOn shows hub (moment_of old before) (moment_of new after)
   collects old new before after on h =
       λ alone o p.
       let same : h.hub ≡ hub = subst (λ c. IfSome c (λ (held : ClaimValue × List Configuration). held.1 ≡ hub)) h.held on in
@@ -93,7 +93,7 @@ drained-fresh = record { sent = λ e. refl; none = λ s e. refl }
 pub goes-read : (shows : ℕ → Type 0) (hub : List Configuration) (inward after : Inward) (base written : Option (List ℕ)) (old new : SessionValue)
     (claim other : Option ClaimValue) (pass : PassValue) (came : Option ℕ) → claim ≡ None → other ≡ None → old.shut ≡ false
     → IfSome came (λ n. IsFed n inward after old new) → (came ≡ None → (after ≡ inward) × (new ≡ old)) → (came ≡ Some 0 → after ≡ looked_at 1 1 [] inward) → written ≡ base
-    → GoesOn shows hub (moment inward base old claim pass) (moment after written new other pass)
+    → PlaysOn shows hub (moment inward base old claim pass) (moment after written new other pass)
 goes-read shows hub inward after base written old new claim other pass came none none' unshut f nothing end kept =
     λ alone o p.
     subst (λ c. IsPlaying shows hub alone o (moment after written new c pass)) (sym none')
@@ -130,7 +130,7 @@ shut-or-ended false before after is ended = inr (ended is)
 
 pub played : {A E : Type 0} (r : Result A E) (shows : ℕ → Type 0) (hub : List Configuration) (start pass : PassValue) (before after : Inward) (base written : Option (List ℕ))
     (first last : SessionValue) → first ≡ fresh
-    → (first.shut ≡ false → OnOk r (GoesOn shows hub (moment before base first None start) (moment after written last None pass)))
+    → (first.shut ≡ false → OnOk r (PlaysOn shows hub (moment before base first None start) (moment after written last None pass)))
     → (IsDrained first → OnOk r (IsDrained last)) → OnOk r (last.shut ≡ false → HasEnded before after)
     → OnOk r (IsPlayed shows hub start pass before after base written)
 played (Err e) shows hub start pass before after base written first last new goes drained ended = tt

@@ -6,7 +6,7 @@ use Rattle.ll_hub.specs.Claim.{ClaimValue}
 use Rattle.ll_hub.specs.Passes.{PassValue}
 use Rattle.ll_player.specs.Asking.{IsReplyTo}
 use Rattle.ll_player.specs.Playing.{Moment, moment}
-use Rattle.ll_player.specs.Steps.{BreaksOff, GoesOn}
+use Rattle.ll_player.specs.Steps.{BreaksOff, PlaysOn}
 use Rattle.ll_player.specs.declared.connection.Step.{Step}
 use Rattle.ll_player.specs.declared.connection.Step.TheVariants as step
 use Rattle.ll_session.specs.Requests.{requests}
@@ -46,7 +46,7 @@ moment_of c pass = moment c.inward c.written c.session (option_map (λ (held : C
 
 -- a step after which it plays, if it did before
 pub record Steps (shows : ℕ → Type 0) (hub : List Configuration) (seen now : PassValue) (old new : ConnectionValue) : Type 0 where
-  pub plays : GoesOn shows hub (moment_of old seen) (moment_of new now)
+  pub plays : PlaysOn shows hub (moment_of old seen) (moment_of new now)
   pub on : IsOn hub new
 
 -- a step that cuts it short

@@ -12,8 +12,8 @@ use Rattle.ll_settings.specs.Settings.{Configuration}
 use Rattle.ll_wire.specs.declared.answer.Answer.{Answer}
 
 -- a connection that plays before the step plays after it, whatever it was at first
-abbrev pub GoesOn : (ℕ → Type 0) → List Configuration → (old new : Moment) → Type 0
-GoesOn shows hub old new = (alone : Bool) (o : Opening) → IsPlaying shows hub alone o old → IsPlaying shows hub alone o new
+abbrev pub PlaysOn : (ℕ → Type 0) → List Configuration → (old new : Moment) → Type 0
+PlaysOn shows hub old new = (alone : Bool) (o : Opening) → IsPlaying shows hub alone o old → IsPlaying shows hub alone o new
 
 -- a connection that plays before the step is cut short by it
 abbrev pub BreaksOff : (ℕ → Type 0) → List Configuration → (old : Moment) → (inward : Inward) → (written : Option (List ℕ)) → (pass : PassValue) → Type 0

@@ -1,7 +1,7 @@
 //! A player's requests, one after another: each is asked, and its answer is sent.
 ghost use Rattle.std.specs.Prelude.{◌≡◌, ◌≢◌, [], IfErr, IfOk, IfSome, IsSome, None, OnErr, OnOk, false, is_some, option_map, true};
 ghost use Rattle.ll_player.specs.Playing.{moment};
-ghost use Rattle.ll_player.specs.Steps.{BreaksOff, GoesOn, IsHalfTurn, IsTurn};
+ghost use Rattle.ll_player.specs.Steps.{BreaksOff, PlaysOn, IsHalfTurn, IsTurn};
 ghost use Rattle.ll_service.specs.Faults.{IsOwn, IsTrue};
 ghost use Rattle.ll_session.specs.Requests.{requests};
 ghost use Rattle.ll_session.specs.Talk.{replied};
@@ -44,7 +44,7 @@ pub(crate) fn go_on<
     ensures unread { P.inward link.new ≡ P.inward link.old }
     ensures other { IfErr result (λ fault. fault ≢ LinkFault.Endless) }
     ensures hub { IfOk result (λ held. IfSome held (λ h. h.hub.now ≡ service.now.hub.now)) }
-    ensures plays { IfOk result (λ held. GoesOn (C.shows service.now.clock.now) service.now.hub.now
+    ensures plays { IfOk result (λ held. PlaysOn (C.shows service.now.clock.now) service.now.hub.now
         (moment (P.inward link.old) (P.written link.old) session.old None pass.old)
         (moment (P.inward link.new) (P.written link.new) session.new (option_map (λ h. h.claim) held) pass.new)) }
     ensures breaks { OnErr result (BreaksOff (C.shows service.now.clock.now) service.now.hub.now

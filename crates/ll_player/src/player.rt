@@ -5,7 +5,7 @@ ghost use Rattle.ll_hub.specs.Calls.{HasSeen};
 ghost use Rattle.ll_player.specs.Asking.{IsReplyTo};
 ghost use Rattle.ll_player.specs.Playing.{IsCutShort, IsPlayed, moment};
 ghost use Rattle.ll_player.specs.Reading.{HasCome, IsDrained, stays_or_ends};
-ghost use Rattle.ll_player.specs.Steps.{BreaksOff, GoesOn};
+ghost use Rattle.ll_player.specs.Steps.{BreaksOff, PlaysOn};
 ghost use Rattle.ll_service.specs.Faults.{IsTrue};
 ghost use Rattle.ll_service.specs.Reads.{HasEnded, IsReadOnce, IsReadThrough, IsReadWithin};
 
@@ -60,7 +60,7 @@ fn converse<L: Ledgers, P: Link, C: Clock, G: Gate, K: Sink, D, B: Bell, R: Wait
     ensures few { IsReadWithin (P.inward link.old) (P.inward link.new) reads }
     ensures endless { IsErrOf result LinkFault.Endless → IsReadThrough (P.inward link.old) (P.inward link.new) reads }
     ensures ended { OnOk result (session.new.shut ≡ false → HasEnded (P.inward link.old) (P.inward link.new)) }
-    ensures plays { session.old.shut ≡ false → OnOk result (GoesOn (C.shows service.now.clock.now) service.now.hub.now
+    ensures plays { session.old.shut ≡ false → OnOk result (PlaysOn (C.shows service.now.clock.now) service.now.hub.now
         (moment (P.inward link.old) (P.written link.old) session.old None pass.old)
         (moment (P.inward link.new) (P.written link.new) session.new None pass.new)) }
     ensures breaks { session.old.shut ≡ false → OnErr result (BreaksOff (C.shows service.now.clock.now) service.now.hub.now
@@ -89,7 +89,7 @@ fn turn<L: Ledgers, P: Link, C: Clock, G: Gate, K: Sink, D, B: Bell, R: Wait + t
     ensures stays { IfOk result (λ stays. stays ≡ true → IsReadThrough (P.inward link.old) (P.inward link.new) 1) }
     ensures ended { IfOk result (λ stays. stays ≡ false → session.new.shut ≡ false → HasEnded (P.inward link.old) (P.inward link.new)) }
     ensures other { IfErr result (λ fault. fault ≢ LinkFault.Endless) }
-    ensures plays { session.old.shut ≡ false → OnOk result (GoesOn (C.shows service.now.clock.now) service.now.hub.now
+    ensures plays { session.old.shut ≡ false → OnOk result (PlaysOn (C.shows service.now.clock.now) service.now.hub.now
         (moment (P.inward link.old) (P.written link.old) session.old None pass.old)
         (moment (P.inward link.new) (P.written link.new) session.new None pass.new)) }
     ensures breaks { session.old.shut ≡ false → OnErr result (BreaksOff (C.shows service.now.clock.now) service.now.hub.now
@@ -139,7 +139,7 @@ fn answer<L: Ledgers, P: Link, C: Clock, G: Gate, K: Sink, D, B: Bell, R: Wait +
     ensures looked { IfOk result (λ stays. P.inward link.new ≡ stays_or_ends stays (P.inward link.old)) }
     ensures unread { OnErr result (P.inward link.new ≡ P.inward link.old) }
     ensures other { IfErr result (λ fault. fault ≢ LinkFault.Endless) }
-    ensures plays { OnOk result (GoesOn (C.shows service.now.clock.now) service.now.hub.now
+    ensures plays { OnOk result (PlaysOn (C.shows service.now.clock.now) service.now.hub.now
         (moment (P.inward link.old) (P.written link.old) session.old None pass.old)
         (moment (P.inward link.new) (P.written link.new) session.new None pass.new)) }
     ensures breaks { OnErr result (BreaksOff (C.shows service.now.clock.now) service.now.hub.now

@@ -14,7 +14,7 @@ use Rattle.ll_page_cache.specs.Written.{AreWritten, WrittenOf}
 use Rattle.ll_pieces.specs.View.{GoOn, renditions}
 use Rattle.ll_presentation.proofs.RefusalLemmas.{accepted_in, kept-there, not_ended, refusal_as}
 use Rattle.ll_presentation.specs.Current.{IsCurrent}
-use Rattle.ll_presentation.specs.Items.{GoesOn, IsPrepared, refusal_in}
+use Rattle.ll_presentation.specs.Items.{HasTaken, IsPrepared, refusal_in}
 use Rattle.ll_presentation.specs.PresentationValue.{PresentationValue, moment}
 use Rattle.ll_rendition.specs.Kept.{kept}
 use Rattle.ll_rendition.specs.Refusal.{refusal_at, rendition_refusal}
@@ -54,7 +54,7 @@ stored c items i old new a free before after is =
 
 going : (old new : PresentationValue) (i : Item) (a : Arrival) → refusal_in old i ≡ None → IsArrival old.renditions i a → GoOn old.renditions new.renditions i
     → moment new ≡ record { settings = old.settings; renditions = new.renditions; count = old.count + 1 } → new.stores ≡ stores_with a new.renditions old.stores
-    → GoesOn old new i
+    → HasTaken old new i
 going old new i a free is on shown arrives =
     let same : new.settings ≡ old.settings = ap (λ (m : Moment). m.settings) shown in
     let more : new.count ≡ old.count + 1 = ap (λ (m : Moment). m.count) shown in
@@ -77,10 +77,10 @@ going old new i a free is on shown arrives =
 -- all of it; `m` is the channel after the item, and `ss` are the bytes
 pub goes-on : (old now : PresentationValue) (i : Item) (m : Moment) (ss : List StoreValue) (a : Arrival) → old ≡ now → refusal_in now i ≡ None
     → IsArrival old.renditions i a → GoOn old.renditions m.renditions i → m ≡ record { settings = old.settings; renditions = m.renditions; count = old.count + 1 }
-    → ss ≡ stores_with a m.renditions old.stores → GoesOn now (record { settings = m.settings; renditions = m.renditions; stores = ss; count = m.count }) i
+    → ss ≡ stores_with a m.renditions old.stores → HasTaken now (record { settings = m.settings; renditions = m.renditions; stores = ss; count = m.count }) i
 goes-on old now i m ss a e free is on shown arrives =
     let new : PresentationValue = record { settings = m.settings; renditions = m.renditions; stores = ss; count = m.count } in
-    subst (λ p. GoesOn p new i) e (going old new i a (ap (λ p. refusal_in p i) e ∙ free) is on shown arrives)
+    subst (λ p. HasTaken p new i) e (going old new i a (ap (λ p. refusal_in p i) e ∙ free) is on shown arrives)
 
 -- the channel of the pages that were prepared
 pub prepared : (p : PresentationValue) (i : Item) (pages : PagesOf) (m : Moment) → IsPrepared p i pages → m ≡ pages.moment

@@ -13,7 +13,7 @@ abbrev pub refusal_in : PresentationValue → Item → Option PublishFault
 refusal_in p i = refusal_at (slice_get p.renditions (rendition_of i)) i
 
 -- `new` is what is kept of some items and this one, if `old` is what is kept of the items before it
-pub record GoesOn (old new : PresentationValue) (i : Item) : Type 0 where
+pub record HasTaken (old new : PresentationValue) (i : Item) : Type 0 where
   pub settings : new.settings ≡ old.settings
   pub count : new.count ≡ old.count + 1
   pub shows : (before : List Item) → Shows old before → Shows new (before ++ i ∷ [])

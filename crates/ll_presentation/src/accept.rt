@@ -1,6 +1,6 @@
 //! Items of a publisher: `test` finds the first rule that refuses one, and what accepts one fails only when out of memory.
 ghost use Rattle.std.specs.Prelude.{◌≡◌, ◌≢◌, ◌<◌, ◌^◌, IfErr, IfOk, MatchResult, None, OnErr, OnOk, Some};
-ghost use Rattle.ll_presentation.specs.Items.{GoesOn, IsPrepared, refusal_in};
+ghost use Rattle.ll_presentation.specs.Items.{HasTaken, IsPrepared, refusal_in};
 ghost use Rattle.ll_presentation.specs.PresentationValue.{moment};
 
 use crate::presentation::Presentation;
@@ -27,7 +27,7 @@ impl Presentation {
     pub fn accept(&mut self, item: &Item) -> Result<(), AllocError>
         requires allowed { refusal_in self.old item.now ≡ None }
         requires few { self.old.count < 2 ^ 60 }
-        ensures accepted { OnOk result (GoesOn self.old self.new item.now) }
+        ensures accepted { OnOk result (HasTaken self.old self.new item.now) }
         ensures unchanged { OnErr result (self.new ≡ self.old) }
     {
         let arrival = expect(&mut self.stores, self.shown.renditions(), item)?;
@@ -54,7 +54,7 @@ impl Presentation {
     pub fn put(&mut self, item: &Item, pages: Pages) -> Result<(), AllocError>
         requires allowed { refusal_in self.old item.now ≡ None }
         requires prepared { IsPrepared self.old item.now pages }
-        ensures accepted { OnOk result (GoesOn self.old self.new item.now) }
+        ensures accepted { OnOk result (HasTaken self.old self.new item.now) }
         ensures shown { OnOk result (moment self.new ≡ pages.moment) }
         ensures unchanged { OnErr result (self.new ≡ self.old) }
     {

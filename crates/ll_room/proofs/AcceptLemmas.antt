@@ -6,7 +6,7 @@ use Rattle.ll_settings.specs.Settings.{Configuration}
 use Rattle.ll_item.specs.declared.item.Item.{Item}
 use Rattle.ll_pieces.specs.View.{Paged, renditions}
 use Rattle.ll_presentation.proofs.RefusalLemmas.{accepted_in, first_none, kept-there, not_ended, refusal_as}
-use Rattle.ll_presentation.specs.Items.{GoesOn}
+use Rattle.ll_presentation.specs.Items.{HasTaken}
 use Rattle.ll_presentation.specs.PresentationValue.{moment, presentation_of}
 use Rattle.ll_window.specs.Compact.{Compact, compact}
 use Rattle.ll_window.specs.Segments.{own}
@@ -108,7 +108,7 @@ item-next channel c es i low some none =
     ∙ ap (λ ys. item_on (presentation_of c ys) (map (settle c ys (time es)) (filter (stays (Publish i)) s.slots) ++ []) h) (sym (taken_is c (items c es) i none))
 
 pub publish-stands : (h new : RoomValue) (es : List Event) (i : Item) → Stands h es → 1 ≤ h.settings.target → 1 ≤ h.settings.window → refusal_by h i ≡ None
-    → GoesOn (presentation_in h) (presentation_in new) i → new ≡ with_item h (presentation_in new) i → Stands new (es ++ Publish i ∷ [])
+    → HasTaken (presentation_in h) (presentation_in new) i → new ≡ with_item h (presentation_in new) i → Stands new (es ++ Publish i ∷ [])
 publish-stands h new es i stands low some free on is =
     let c = h.settings in
     let none : refusal c (items c es) i ≡ None = first_none (refusal c (items c es) i) (full_by (is_full (length es))) (sym (refusal-told h es i stands) ∙ free) in

@@ -2,7 +2,7 @@
 ghost use Rattle.std.specs.Prelude.{◌≡◌, ◌≢◌, ◌+◌, ◌++◌, ◌∷◌, [], List, IfOk, IfErr, IsErrOf, OnOk, OnErr, MatchResult, None, Some};
 ghost use Rattle.ll_book.specs.Releases.{HasHolders};
 ghost use Rattle.ll_item.specs.declared.item.Item.{Item};
-ghost use Rattle.ll_presentation.specs.Items.{GoesOn};
+ghost use Rattle.ll_presentation.specs.Items.{HasTaken};
 ghost use Rattle.ll_room.specs.Freed.{with_item};
 ghost use Rattle.ll_room.specs.Freed as spec;
 ghost use Rattle.ll_room.specs.Full.{refusal_by};
@@ -97,7 +97,7 @@ impl Room {
     ) -> Result<(), AllocError>
         requires allowed { refusal_by self.old item.now ≡ None }
         requires releases { (first, second) ≡ spec.releases self.old item.now }
-        ensures goes_on { OnOk result (GoesOn (presentation_in self.old) (presentation_in self.new) item.now) }
+        ensures goes_on { OnOk result (HasTaken (presentation_in self.old) (presentation_in self.new) item.now) }
         ensures accepted { OnOk result (self.new ≡ with_item self.old (presentation_in self.new) item.now) }
         ensures unchanged { OnErr result (self.new ≡ self.old) }
     {
@@ -118,7 +118,7 @@ impl Room {
     ) -> Result<(), AllocError>
         requires allowed { refusal_by self.old item.now ≡ None }
         requires releases { (first, second) ≡ spec.releases self.old item.now }
-        ensures goes_on { OnOk result (GoesOn (presentation_in self.old) (presentation_in self.new) item.now) }
+        ensures goes_on { OnOk result (HasTaken (presentation_in self.old) (presentation_in self.new) item.now) }
         ensures accepted { OnOk result (self.new ≡ with_item self.old (presentation_in self.new) item.now) }
         ensures unchanged { OnErr result (self.new ≡ self.old) }
     {

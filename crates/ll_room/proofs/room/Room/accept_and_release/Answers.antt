@@ -6,7 +6,7 @@ use Rattle.ll_book.specs.Release.{Supply}
 use Rattle.ll_book.specs.Releases.{part_of}
 use Rattle.ll_book.specs.declared.release.Release.{Release}
 use Rattle.ll_page_cache.specs.Pages.{PagesOf}
-use Rattle.ll_presentation.specs.Items.{GoesOn}
+use Rattle.ll_presentation.specs.Items.{HasTaken}
 use Rattle.ll_room.specs.Freed.{AreApart}
 use Rattle.ll_room.specs.RoomValue.{presentation_in}
 use Rattle.ll_room.specs.contracts.room.Room.{the_view}
@@ -30,7 +30,7 @@ release_with-requires-2 c =
     }
 
 pub returns-clause-goes_on : goal.returns-clause-goes_on
-returns-clause-goes_on c = subst (λ x. GoesOn (presentation_in x) c.put.new.self c.args.item.now) c.self.view_is c.in_ok-put.ensures.accepted
+returns-clause-goes_on c = subst (λ x. HasTaken (presentation_in x) c.put.new.self c.args.item.now) c.self.view_is c.in_ok-put.ensures.accepted
 
 pub returns-clause-accepted : goal.returns-clause-accepted
 returns-clause-accepted c =

@@ -1,7 +1,7 @@
 -- If no request is released, only what is kept of the items changes.
 use Rattle.std.proofs.Common.{◌≡◌, false, refl, rules, subst}
 use Rattle.ll_book.specs.Releases.{takes_any}
-use Rattle.ll_presentation.specs.Items.{GoesOn}
+use Rattle.ll_presentation.specs.Items.{HasTaken}
 use Rattle.ll_room.specs.Freed.{releases}
 use Rattle.ll_room.specs.RoomValue.{presentation_in}
 use Rattle.ll_room.specs.contracts.room.Room.{the_view}
@@ -10,7 +10,7 @@ use Rattle.ll_room.proofs.PublishLemmas.{kept-item, silent-item}
 use Rattle.ll_room.proofs.room.Room.take_in.Goals as goal
 
 pub returns-clause-goes_on : goal.returns-clause-goes_on
-returns-clause-goes_on c = subst (λ x. GoesOn (presentation_in x) c.accept.new.self c.args.item.now) c.self-2.view_is c.in_ok-accept.ensures.accepted
+returns-clause-goes_on c = subst (λ x. HasTaken (presentation_in x) c.accept.new.self c.args.item.now) c.self-2.view_is c.in_ok-accept.ensures.accepted
 
 pub returns-clause-accepted : goal.returns-clause-accepted
 returns-clause-accepted c =
