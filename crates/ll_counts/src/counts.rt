@@ -12,6 +12,9 @@ use ll_wire::Answer;
 use std::alloc::{AllocError, Global};
 use std::fmt;
 
+/// For how many milliseconds, for each second of the target duration, a rendition may have no part while its channel's health is good.
+const SILENCE: u64 = 3_000;
+
 /// Why an item is refused once its channel is known, in the order of the line of numbers.
 pub(crate) const REFUSALS: [Refusal; 16] = [
     Refusal::Rule(PublishFault::NoRendition),
@@ -159,7 +162,7 @@ impl Counts {
 
     /// Returns whether its parts come; `now` is in milliseconds since the server's start.
     pub(crate) fn health(&self, alloc: Global, now: u64) -> Result<Health, AllocError> {
-        let most = self.target.saturating_mul(3_000);
+        let most = self.target.saturating_mul(SILENCE);
         let mut silent = String::new(alloc);
         for pulse in &self.renditions {
             if pulse.is_silent(now, most) {
