@@ -53,7 +53,7 @@ pub fn called(rt: &HostRuntime) -> Result<Exit, Fault> {
         Command::Explain { record, entry } => explain::<Brand>(rt, record, entry, Blank::new(2)),
         Command::Multivariant { record, sources } => {
             let right = multivariant(rt, record.as_str(), sources)?;
-            Ok(ending_of(right))
+            Ok(exit_of(right))
         }
         Command::Version => {
             write_version(&mut rt.stdout())?;
@@ -86,7 +86,7 @@ fn check<L: Ledger>(rt: &HostRuntime, path: &Text, reads: Blank) -> Result<Exit,
 {
     let mut record = open::<L>(rt, path, reads)?;
     let right = write_checked(rt.alloc(), &mut record, &mut rt.stdout())?;
-    Ok(ending_of(right))
+    Ok(exit_of(right))
 }
 
 /// Writes the record in a file in format 2, or how it isn't right. It reads the file twice.
@@ -106,7 +106,7 @@ fn upgrade<L: Ledger, M: Ledger>(
     let mut record = open::<L>(rt, path, reads)?;
     let mut again = open::<M>(rt, path, further)?;
     let right = write_upgraded(rt.alloc(), &mut record, &mut again, &mut rt.stdout())?;
-    Ok(ending_of(right))
+    Ok(exit_of(right))
 }
 
 /// Writes a summary of the record in a file, or how it isn't right.
@@ -117,7 +117,7 @@ fn summarize<L: Ledger>(rt: &HostRuntime, path: &Text, reads: Blank) -> Result<E
 {
     let mut record = open::<L>(rt, path, reads)?;
     let right = write_summary(rt.alloc(), &mut record, &mut rt.stdout())?;
-    Ok(ending_of(right))
+    Ok(exit_of(right))
 }
 
 /// Writes what happened at an entry of the record in a file, or how the record isn't right.
@@ -133,7 +133,7 @@ fn explain<L: Ledger>(
 {
     let mut record = open::<L>(rt, path, reads)?;
     let right = write_explained(rt.alloc(), &mut record, entry, &mut rt.stdout())?;
-    Ok(ending_of(right))
+    Ok(exit_of(right))
 }
 
 /// Opens a file to read it in pieces.
@@ -153,7 +153,7 @@ fn open<L: Ledger>(
 }
 
 /// Returns the ending for a record that is `right`, or isn't.
-fn ending_of(right: bool) -> Exit {
+fn exit_of(right: bool) -> Exit {
     if right { Exit::Done } else { Exit::BadRecord }
 }
 
