@@ -56,6 +56,7 @@ bench: kit
 	@$(HERE)bench/rotate.sh
 	@$(HERE)bench/spool.sh
 	@$(HERE)bench/push.sh
+	@$(HERE)bench/players.py
 	@$(HERE)bench/soak.sh
 
 demo: kit
