@@ -9,11 +9,12 @@ use Rattle.ll_check.proofs.SourceLemmas.{fault-of, full-of, stayed-end}
 use Rattle.ll_check.proofs.StepLemmas.{GoesTo, moved}
 use Rattle.ll_check.specs.EntryReplies.{Brings, BringsNone}
 use Rattle.ll_check.specs.Found.{ChainValue, IsAt, so_far}
-use Rattle.ll_check.specs.Going.{HasGone, HasVisited, IsAhead, IsElsewhere, IsFound, IsHere, StillHolds}
+use Rattle.ll_check.specs.Going.{HasGone, IsAhead, IsElsewhere, IsFound, IsHere}
 use Rattle.ll_check.specs.Lines.{IsShort, lines_at}
 use Rattle.ll_check.specs.Passing.{HasPassed, HasStayed, IsWrongAt}
 use Rattle.ll_check.specs.Steps.{IsOver, Tells, has_entry}
 use Rattle.ll_check.specs.Unread.{IsFaultOf, UnreadValue}
+use Rattle.ll_check.specs.Visiting.{HasEnded, HasVisited, Holds, StaysWithin, StillHolds}
 use Rattle.ll_check.specs.declared.going.Reached.TheVariants.{End}
 use Rattle.ll_check.specs.declared.replies.EntryReply.{EntryReply}
 use Rattle.ll_check.specs.declared.source.RecordFault.TheVariants.{Wrong}
@@ -194,7 +195,7 @@ going-early kept entry n P lines rest g place = early entry (entries (so_far g.n
 
 -- ---- the visitor
 
-module _ {S V : Type 0} (holds : S → V → S → Position → List (List ℕ) → List (List ℕ) → Type 0) (entry : ℕ) (first : S) (start : V) where
+module _ {S V : Type 0} (holds : Holds S V) (entry : ℕ) (first : S) (start : V) where
   -- a record is gone over, and what holds of the visitor and its sink holds at the rest of it
   abbrev pub GoingBy : Option ChainValue → V → S → List ℕ → List ℕ → Type 0
   GoingBy kept visitor sink input rest =
@@ -235,3 +236,20 @@ module _ {S V : Type 0} (holds : S → V → S → Position → List (List ℕ) 
       → (input rest : List ℕ) → GoingBy kept visitor sink input rest → (entry ≡ 0) ⊎ (n ≤ entry)
   by-early kept mid visitor sink looked n other place input rest g =
       early entry (entries (so_far g.now)) n (place g.now (subst (λ k. IsAt k g.now) (sym (other g.now [] g.at).same) g.at)) g.ahead
+
+  -- after an error, what held of them still does
+  pub by-held : (kept : Option ChainValue) (visitor : V) (sink : S) (input rest : List ℕ) → GoingBy kept visitor sink input rest
+      → StaysWithin holds first start visitor sink (pieces_at 10 input)
+  by-held kept visitor sink input rest g = λ begun. (g.now, pieces_at 10 rest, g.held begun)
+
+  pub by-stayed : (kept : Option ChainValue) (old next : V) (sink after : S) → next ≡ old → after ≡ sink → (input rest : List ℕ) → GoingBy kept old sink input rest
+      → StaysWithin holds first start next after (pieces_at 10 input)
+  by-stayed kept old next sink after same still input rest g =
+      subst (λ v. StaysWithin holds first start v after (pieces_at 10 input)) (sym same)
+      (subst (λ s. StaysWithin holds first start old s (pieces_at 10 input)) (sym still) (by-held kept old sink input rest g))
+
+  pub by-ended : (kept mid : Option ChainValue) (old new : V) (sink after : S) (looked text : List ℕ)
+      → ((p : Position) (more : List ℕ) → IsAt kept p → IsElsewhere kept mid p entry looked more) → HasEnded holds mid text old sink new after
+      → (input more : List ℕ) → GoingBy kept old sink input (text ++ more) → StaysWithin holds first start new after (pieces_at 10 input)
+  by-ended kept mid old new sink after looked text other ended input more g = λ begun.
+      ended first g.now (pieces_at 10 input) more (subst (λ k. IsAt k g.now) (sym (other g.now [] g.at).same) g.at) (g.held begun)

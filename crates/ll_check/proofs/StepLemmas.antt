@@ -1,11 +1,10 @@
 -- The result of lines, by what the first of them say.
-use Rattle.std.proofs.Common.{◌≡◌, ℕ, List, ◌∷◌, ◌++◌, Bool, true, false, cond, Option, Some, None, Result, Ok, Err, refl, ap, ap₂, sym, subst, ◌∙◌, bytes_eq, length, option_map}
+use Rattle.std.proofs.Common.{◌≡◌, ℕ, List, ◌∷◌, Bool, true, false, cond, Option, Some, None, Result, Ok, Err, refl, ap, ap₂, sym, subst, ◌∙◌, bytes_eq, length, option_map}
 use Rattle.ll_attr.specs.Words.{pieces_at}
 use Rattle.ll_check.proofs.Begun.{begun_parts}
 use Rattle.ll_check.specs.Found.{AreKept, ChainValue, IsAt, IsOf, so_far}
 use Rattle.ll_check.specs.Joined.{IsBegun, IsJoined}
 use Rattle.ll_check.specs.Lines.{IsText}
-use Rattle.ll_check.specs.Passing.{HasPassed}
 use Rattle.ll_check.specs.Steps.{IsBegunBy, IsEntry, IsHeader, IsOver, Moves, Tells, in_full}
 use Rattle.ll_entry_check.specs.Full.{without_item}
 use Rattle.ll_entry_check.specs.declared.full.FullEntry.{FullEntry}
@@ -131,9 +130,6 @@ pub record GoesTo (kept : Option ChainValue) (p : Position) (lines rest : List (
   pub at : IsAt kept now
   pub same : checked_from p lines ≡ checked_from now rest
 
-pub goes-first : (kept : Option ChainValue) (p : Position) (lines : List (List ℕ)) → IsAt kept p → GoesTo kept p lines lines
-goes-first kept p lines at = record { now = p; at = at; same = refl }
-
 pub goes-on : (kept new : Option ChainValue) (p : Position) (lines mid : List (List ℕ)) (rest : List ℕ) (t : Told) → GoesTo kept p lines mid
     → ((q : Position) → IsAt kept q → Moves new q t mid (pieces_at 10 rest)) → GoesTo new p lines (pieces_at 10 rest)
 goes-on kept new p lines mid rest t g on =
@@ -147,12 +143,3 @@ over-at kept new q rest at o = (
   subst (λ k. IsAt k (Between (so_far q))) (sym o.same) (subst (IsAt kept) o.between at),
   ap₂ (λ q r. checked_from q (pieces_at 10 r)) o.between o.none,
 )
-
--- lines that are passed
-pub goes-past : (kept new : Option ChainValue) (p : Position) (lines : List (List ℕ)) (text rest more : List ℕ) (t : Told)
-    → GoesTo kept p lines (pieces_at 10 (text ++ more)) → HasPassed kept new text rest t → GoesTo new p lines (pieces_at 10 (rest ++ more))
-goes-past kept new p lines text rest more t g h = goes-on kept new p lines (pieces_at 10 (text ++ more)) (rest ++ more) t g (λ q at. h.moves q more at)
-
--- nothing changes
-pub goes-stay : (kept new : Option ChainValue) (p : Position) (lines rest : List (List ℕ)) → new ≡ kept → GoesTo kept p lines rest → GoesTo new p lines rest
-goes-stay kept new p lines rest same g = subst (λ k. GoesTo k p lines rest) (sym same) g

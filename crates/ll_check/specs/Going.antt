@@ -2,19 +2,14 @@
 use Rattle.std.specs.Prelude.{◌≡◌, ◌+◌, ◌<◌, ◌≤◌, ◌⊎◌, ℕ, List, [], ◌∷◌, ◌++◌, Option, None, Ok, Some, false, length}
 use Rattle.ll_attr.specs.Words.{pieces_at}
 use Rattle.ll_check.specs.EntryReplies.{Brings, brought}
-use Rattle.ll_check.specs.Found.{ChainValue, IsAt, so_far}
-use Rattle.ll_check.specs.Steps.{Tells, has_entry, reached}
+use Rattle.ll_check.specs.Found.{ChainValue, so_far}
+use Rattle.ll_check.specs.Steps.{has_entry, reached}
 use Rattle.ll_check.specs.declared.going.Reached.{Reached}
 use Rattle.ll_check.specs.declared.going.Reached.TheVariants.{End, Entry}
 use Rattle.ll_check.specs.declared.replies.EntryReply.{EntryReply}
 use Rattle.ll_check.specs.declared.source.RecordFault.{RecordFault}
 use Rattle.ll_check.specs.declared.source.RecordFault.TheVariants.{Wrong, Unread}
-use Rattle.ll_check.specs.declared.told.Told.{Told}
 use Rattle.ll_entry.specs.Chain.{Between, Chain, Inside, Position, checked, entries, with_line}
-
--- what holds of a visitor and its sink after lines, if the same held of them before the first line
-abbrev pub StillHolds : {S V : Type 0} → (S → V → S → Position → List (List ℕ) → List (List ℕ) → Type 0) → S → V → V → S → List (List ℕ) → Position → List (List ℕ) → Type 0
-StillHolds holds first old new sink lines p rest = holds first old first (Between None) lines lines → holds first new sink p lines rest
 
 -- the entry with this number comes after the first `n`, or there is none with that number
 abbrev pub IsAhead : ℕ → ℕ → Type 0
@@ -50,12 +45,6 @@ IsEarly entry (Wrong f) = (entry ≡ 0) ⊎ (f.entry ≤ entry)
 IsEarly entry (Unread f) = Unit
 
 -- ---- for private contracts
-
--- what a visitor did at lines which say this
-abbrev pub HasVisited : {S V : Type 0} → (S → V → S → Position → List (List ℕ) → List (List ℕ) → Type 0) → Option ChainValue → V → S → Told → V → S → Type 0
-HasVisited {S} {V} holds kept old sink told new after =
-    (first : S) (p next : Position) (lines mid rest : List (List ℕ)) → IsAt kept p → holds first old sink p lines mid → Tells p told next mid rest
-    → holds first new after next lines rest
 
 -- the entry with this number isn't the one that comes next, if the text that was read has a line with its end; and nothing changes
 pub record IsElsewhere (old new : Option ChainValue) (p : Position) (entry : ℕ) (text more : List ℕ) : Type 0 where

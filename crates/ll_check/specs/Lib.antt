@@ -9,3 +9,4 @@ pub mod Passing
 pub mod Records
 pub mod Steps
 pub mod Unread
+pub mod Visiting

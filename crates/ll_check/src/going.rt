@@ -1,10 +1,11 @@
 //! How a record is read in pieces, and its lines are checked and passed to a visitor, up to an entry or to the end.
-ghost use Rattle.std.specs.Prelude.{◌≡◌, ◌<◌, ◌≤◌, ◌+◌, ◌^◌, IfErr, IfOk, List, MatchOption, Ok, Option, Some, [], false, true, ℕ};
+ghost use Rattle.std.specs.Prelude.{◌≡◌, ◌<◌, ◌≤◌, ◌+◌, ◌^◌, IfErr, IfOk, List, MatchOption, Ok, OnErr, Option, Some, [], false, true, ℕ};
 ghost use Rattle.ll_attr.specs.Words.{pieces_at};
 ghost use Rattle.ll_check.specs.Found.{IsAt, so_far};
-ghost use Rattle.ll_check.specs.Going.{HasGone, HasVisited, IsEarly, IsElsewhere, IsHere, IsSought, StillHolds};
+ghost use Rattle.ll_check.specs.Going.{HasGone, IsEarly, IsElsewhere, IsHere, IsSought};
 ghost use Rattle.ll_check.specs.Passing.{HasPassed, HasStayed, IsWrongAt};
 ghost use Rattle.ll_check.specs.Unread.{IsFaultOf, IsStopped};
+ghost use Rattle.ll_check.specs.Visiting.{HasEnded, HasVisited, StaysWithin, StillHolds};
 ghost use Rattle.ll_check.specs.declared.told.Told.{Told};
 ghost use Rattle.ll_entry.specs.Chain as spec;
 ghost use Rattle.ll_entry.specs.Chain.{Between, Position, checked, entries};
@@ -39,6 +40,8 @@ pub fn go_over<R: Reader, S, V: Visitor<S>>(
     ensures value { (input : List ℕ) → R.left source.old ≡ Some input → IfOk result (λ n. checked input ≡ Ok n) }
     ensures visited { (input : List ℕ) → R.left source.old ≡ Some input → IfOk result (λ n. (before : Option spec.Chain)
         × StillHolds V.holds sink.old visitor.old visitor.new sink.new (pieces_at 10 input) (Between before) (pieces_at 10 [])) }
+    ensures held { (input : List ℕ) → R.left source.old ≡ Some input
+        → OnErr result (StaysWithin V.holds sink.old visitor.old visitor.new sink.new (pieces_at 10 input)) }
     ensures wrong { (input : List ℕ) → R.left source.old ≡ Some input → IfErr result (IsFaultOf input) }
     ensures stopped { IfErr result (IsStopped (R.failures source.old < R.failures source.new) (R.reads source.new ≡ R.reads source.old + 2 ^ 32)) }
 {
@@ -58,6 +61,8 @@ pub fn go_to<R: Reader, S, V: Visitor<S>>(
 ) -> Result<Reached, RecordFault>
     ensures gone { (input : List ℕ) → R.left source.old ≡ Some input
         → IfOk result (HasGone (StillHolds V.holds sink.old visitor.old visitor.new sink.new (pieces_at 10 input)) entry input) }
+    ensures held { (input : List ℕ) → R.left source.old ≡ Some input
+        → OnErr result (StaysWithin V.holds sink.old visitor.old visitor.new sink.new (pieces_at 10 input)) }
     ensures sought { IfOk result (IsSought entry) }
     ensures wrong { (input : List ℕ) → R.left source.old ≡ Some input → IfErr result (IsFaultOf input) }
     ensures early { (input : List ℕ) → R.left source.old ≡ Some input → IfErr result (IsEarly entry) }
@@ -107,6 +112,7 @@ fn pass<S, V: Visitor<S>>(
         × HasVisited V.holds checker.old visitor.old sink.old t visitor.new sink.new) × (unread.new.reads ≡ unread.old.reads)) }
     ensures stayed { IfOk result (λ passed. passed ≡ false
         → HasStayed checker.old checker.new unread.old unread.new × (visitor.new ≡ visitor.old) × (sink.new ≡ sink.old)) }
+    ensures ended { OnErr result (HasEnded V.holds checker.old unread.old.text visitor.old sink.old visitor.new sink.new) }
     ensures wrong { IfErr result (IsWrongAt checker.old unread.old.text) }
     ensures place { (p : Position) → IsAt checker.old p → IfErr result (λ f. f.entry ≡ entries (so_far p) + 1) }
 {

@@ -1,7 +1,8 @@
 //! What the lines of a record are passed to while it is read in pieces.
-ghost use Rattle.std.specs.Prelude.{◌≡◌, ◌≤◌, ◌^◌, List, true, ℕ};
+ghost use Rattle.std.specs.Prelude.{◌≡◌, ◌≤◌, ◌^◌, List, false, true, ℕ};
 ghost use Rattle.ll_check.specs.Found.{so_far};
 ghost use Rattle.ll_check.specs.Steps.{Tells};
+ghost use Rattle.ll_check.specs.Visiting.{Holds, HoldsWithin};
 ghost use Rattle.ll_entry.specs.Chain.{Position, entries};
 
 use crate::told::Told;
@@ -9,12 +10,14 @@ use crate::told::Told;
 /// What the lines of a record are passed to, one after another, and what changes a sink by them.
 pub trait Visitor<S> {
     /// What holds of the sink as it was first, of the visitor, and of the sink, after the lines up to the rest, which lead to a position.
-    ghost holds: { S → Self → S → Position → List (List ℕ) → List (List ℕ) → Type 0 };
+    ghost holds: { Holds S Self };
 
     /// Changes `sink` by the next lines, which say `told`, and returns whether the record is to be read on.
     fn visit(&mut self, sink: &mut S, told: &Told<'_>) -> bool
-        ensures { (first : S) (p next : Position) (lines mid rest : List (List ℕ)) → holds first self.old sink.old p lines mid
-            → Tells p told.now next mid rest → entries (so_far p) ≤ 2 ^ 63 → result ≡ true → holds first self.new sink.new next lines rest };
+        ensures on { (first : S) (p next : Position) (lines mid rest : List (List ℕ)) → holds first self.old sink.old p lines mid
+            → Tells p told.now next mid rest → entries (so_far p) ≤ 2 ^ 63 → result ≡ true → holds first self.new sink.new next lines rest }
+        ensures ended { (first : S) (p next : Position) (lines mid rest : List (List ℕ)) → holds first self.old sink.old p lines mid
+            → Tells p told.now next mid rest → entries (so_far p) ≤ 2 ^ 63 → result ≡ false → HoldsWithin holds first self.new sink.new lines };
 }
 
 /// A visitor to whom all lines are the same.

@@ -1,5 +1,5 @@
 -- What is known if a fault of a record is returned.
-use Rattle.std.proofs.Common.{◌≡◌, ◌≢◌, ◌≤◌, ◌⊎◌, ℕ, List, Bool, true, false, Option, Result, Ok, Err, IfOk, IsErr, IsErrOf, ap, is_err, refl, true≢false}
+use Rattle.std.proofs.Common.{◌≡◌, ◌≢◌, ℕ, List, Bool, true, false, Option, Result, Ok, Err, IfOk, IsErr, IsErrOf, ap, is_err, refl, true≢false}
 use Rattle.std.specs.Io.KnownBytes.{Appends}
 use Rattle.ll_check.specs.Answer.{answer_line}
 use Rattle.ll_check.specs.Going.{IsEarly}

@@ -1,10 +1,11 @@
 //! Writes to standard output what the program's commands result in.
-ghost use Rattle.std.specs.Prelude.{◌≡◌, ◌≢◌, ◌+◌, ◌<◌, ◌^◌, ◌⊎◌, List, ℕ, Ok, Err, Some, IfErr, IfOk, IsErr, IsErrOf, IsOk, OnOk, is_ok};
+ghost use Rattle.std.specs.Prelude.{◌≡◌, ◌≢◌, ◌+◌, ◌<◌, ◌^◌, ◌⊎◌, List, ℕ, Ok, Err, Some, IfErr, IfOk, IsErr, IsErrOf, IsOk, OnErr, OnOk, is_ok};
 ghost use Rattle.std.specs.Io.KnownBytes.{Appends};
 ghost use Rattle.ll_apply.specs.Texts.{applied_text};
 ghost use Rattle.ll_apply.specs.declared.fault.ApplyFault.{ApplyFault};
 ghost use Rattle.ll_apply.specs.declared.fault.ApplyFault.TheVariants as apply_fault;
 ghost use Rattle.ll_check.specs.Answer as spec;
+ghost use Rattle.ll_device.specs.Written.{AppendsPrefix};
 ghost use Rattle.ll_entry.specs.Chain.{checked};
 ghost use Rattle.ll_explain.specs.Explained.{HasNoEntry};
 ghost use Rattle.ll_explain.specs.Upgrade.{upgraded};
@@ -15,7 +16,9 @@ use ll_apply::apply;
 use ll_check::{RecordFault, answer_line, check_source};
 use ll_device::Reader;
 use ll_entry::{CheckFault, CheckKind};
-use ll_explain::{ExplainFault, UpgradeFault, explain, summarize, summary_text, upgrade};
+use ll_explain::{
+    ExplainFault, UpgradeFault, explain, summarize, summary_text, upgrade, write_text,
+};
 use std::alloc::{AllocError, Global};
 use std::io::Write;
 
@@ -59,7 +62,7 @@ pub fn write_checked<R: Reader, W: Write>(
 
 /// Writes the record that is left in `source` in format 2, or how it isn't right, and returns whether it is right. The record is read in pieces,
 /// first to check it, and then, left in `again`, to write it as it is read: the memory doesn't grow with it. Fails with `Changed` if it isn't
-/// right then.
+/// right then. If it fails, a prefix was written.
 pub fn write_upgraded<R: Reader, S: Reader, W: Write>(
     alloc: Global,
     source: &mut R,
@@ -68,6 +71,8 @@ pub fn write_upgraded<R: Reader, S: Reader, W: Write>(
 ) -> Result<bool, Fault>
     ensures written { (input : List ℕ) → R.left source.old ≡ Some input → S.left again.old ≡ Some input → IfOk result (λ right. (right ≡ is_ok (checked input))
         × Appends (W.contents out.old) (W.contents out.new) (spec.upgrade_answer (checked input) (upgraded input))) }
+    ensures cut { (input next : List ℕ) → R.left source.old ≡ Some input → S.left again.old ≡ Some next
+        → OnErr result (AppendsPrefix (W.contents out.old) (W.contents out.new) (spec.upgrade_answer (checked input) (upgraded next))) }
     ensures right { (input : List ℕ) → R.left source.old ≡ Some input → IsErrOf result Fault.Changed → IsOk (checked input) }
     ensures changed { (input : List ℕ) → S.left again.old ≡ Some input → IsErrOf result Fault.Changed → IsErr (checked input) }
     ensures read { IsErrOf result Fault.Read → (R.failures source.old < R.failures source.new) ⊎ (S.failures again.old < S.failures again.new) }
@@ -152,6 +157,8 @@ pub(crate) fn write_answer<W: Write>(
     out: &mut W,
 ) -> Result<bool, Fault>
     ensures written { IfOk result (λ right. (right ≡ is_ok answer) × Appends (W.contents out.old) (W.contents out.new) (spec.answer_line answer)) }
+    ensures cut { OnErr result (AppendsPrefix (W.contents out.old) (W.contents out.new) (spec.answer_line answer)) }
+    ensures none { IfErr answer (λ f. f.kind ≡ CheckKind.Memory → out.new ≡ out.old) }
     ensures told { IfOk result (λ right. IfErr answer (λ f. f.kind ≢ CheckKind.Memory)) }
     ensures kinds { IfErr result (λ f. f ≢ Fault.Write → f ≡ Fault.Memory) }
 {
@@ -174,9 +181,13 @@ pub(crate) fn write_answer<W: Write>(
 /// Writes `bytes`, and flushes.
 pub(crate) fn write_out<W: Write>(bytes: &[u8], out: &mut W) -> Result<(), Fault>
     ensures written { OnOk result (Appends (W.contents out.old) (W.contents out.new) bytes.now) }
+    ensures cut { OnErr result (AppendsPrefix (W.contents out.old) (W.contents out.new) bytes.now) }
     ensures fault { IfErr result (λ f. f ≡ Fault.Write) }
 {
-    if out.write_all(bytes).is_err() || out.flush().is_err() {
+    if write_text(bytes, out) < bytes.len() {
+        return Err(Fault::Write);
+    }
+    if out.flush().is_err() {
         return Err(Fault::Write);
     }
     Ok(())

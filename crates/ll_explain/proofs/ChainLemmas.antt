@@ -1,5 +1,5 @@
 -- The chains of a record, by what its first lines say.
-use Rattle.std.proofs.Common.{◌≡◌, ◌≤◌, ◌<◌, ◌^◌, ◌+◌, ◌-◌, ℕ, zero, suc, List, [], ◌∷◌, ◌++◌, cond, length, length-append, map, Option, Some, None, Result, Ok, Err, OnOk, is_ok, true, true≢false, refl, ap, sym, subst, ◌∙◌, append_assoc, option_map, arith}
+use Rattle.std.proofs.Common.{◌≡◌, ◌≤◌, ◌<◌, ◌^◌, ◌+◌, ◌-◌, ℕ, zero, suc, List, [], ◌∷◌, ◌++◌, cond, length, length-append, map, Option, Some, None, Result, Ok, Err, OnErr, OnOk, false, is_ok, true, true≢false, refl, ap, sym, subst, ◌∙◌, append_assoc, option_map, arith}
 use Rattle.std.proofs.lemmas.List.{append-nil}
 use Rattle.ll_attr.specs.Words.{pieces_at}
 use Rattle.ll_check.proofs.Begun.{entry_line}
@@ -130,3 +130,7 @@ counted-all summaries before bytes c = c.are ∙ ap (map summary_of) (sym (c.tol
 pub ok-on : {T E : Type 0} (r : Result T E) (P : Type 0) → is_ok r ≡ true → OnOk r P → P
 ok-on (Ok v) P fine h = h
 ok-on (Err f) P fine h = absurd (true≢false (sym fine))
+
+pub err-on : {T E : Type 0} (r : Result T E) (P : Type 0) → is_ok r ≡ false → OnErr r P → P
+err-on (Ok v) P fails h = absurd (true≢false fails)
+err-on (Err f) P fails h = h

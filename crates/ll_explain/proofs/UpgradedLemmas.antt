@@ -1,10 +1,11 @@
 -- What lines are in format 2, by what the first of them say.
-use Rattle.std.proofs.Common.{◌≡◌, ℕ, List, [], ◌++◌, cond, length, Option, Some, None, Result, Ok, Err, OnOk, false, is_err, is_ok, true≢false, refl, ap, sym, subst, ◌∙◌, append_assoc, append-nil, option_map}
+use Rattle.std.proofs.Common.{◌≡◌, ℕ, List, [], ◌++◌, cond, length, Option, Some, None, Result, Ok, Err, OnOk, false, is_err, is_ok, true≢false, ap, sym, subst, ◌∙◌, append_assoc, append-nil, option_map}
 use Rattle.std.proofs.KnownBytes.{Appends-nil, Appends-trans}
 use Rattle.std.specs.Io.KnownBytes.{Appends}
 use Rattle.std.specs.Option.{option_map_or}
 use Rattle.ll_attr.specs.Words.{pieces_at}
 use Rattle.ll_check.specs.Steps.{Tells, full_entry}
+use Rattle.ll_device.specs.Written.{AppendsPrefix}
 use Rattle.ll_entry_check.specs.Full.{without_item}
 use Rattle.ll_explain.specs.Upgrade.{AreWritten, told_text, upgraded, upgraded_entry, upgraded_from, upgraded_line, where_right}
 use Rattle.ll_entry_check.specs.declared.full.FullEntry.{FullEntry}
@@ -75,20 +76,26 @@ written-told first out text longer p next t lines mid rest w by added =
           ∙ ap (λ x. x ++ after) (append_assoc w.written text (told_text u.0 t) ∙ ap (λ x. w.written ++ x) (sym (added u.0)));
     }
 
--- what was still to be written was
-pub written-out : (first out after : Option (List ℕ)) (text left : List ℕ) (p : Position) (lines rest : List (List ℕ)) → AreWritten first out text p lines rest
-    → Appends out after text → left ≡ [] → AreWritten first after left p lines rest
-written-out first out after text left p lines rest w more empty = record {
-  written = w.written ++ text;
-  appends = Appends-trans first out after w.written text w.appends more;
-  are = w.are ∙ ap (λ x. x ++ upgraded_from p rest) (sym (append-nil (w.written ++ text)) ∙ ap (λ x. w.written ++ text ++ x) (sym empty));
+-- a part of what was still to be written was
+pub written-more : (first out after : Option (List ℕ)) (text left : List ℕ) (p : Position) (lines rest : List (List ℕ)) → AreWritten first out text p lines rest
+    → ((prefix : List ℕ) × (text ≡ prefix ++ left) × Appends out after prefix) → AreWritten first after left p lines rest
+written-more first out after text left p lines rest w more = record {
+  written = w.written ++ more.0;
+  appends = Appends-trans first out after w.written more.0 w.appends more.2;
+  are = w.are ∙ ap (λ x. x ++ upgraded_from p rest) (ap (λ x. w.written ++ x) more.1 ∙ sym (append_assoc w.written more.0 left));
 }
 
--- no text is left
-pub written-all : (first out after : Option (List ℕ)) (text bytes : List ℕ) (before : Option Chain)
-    → AreWritten first out text (Between before) (pieces_at 10 bytes) (pieces_at 10 []) → Appends out after text → Appends first after (upgraded bytes)
-written-all first out after text bytes before w more =
-    subst (Appends first after) (sym (w.are ∙ append-nil (w.written ++ text))) (Appends-trans first out after w.written text w.appends more)
+-- no line is left, and nothing to be written
+pub written-all : (first out : Option (List ℕ)) (text bytes : List ℕ) (before : Option Chain)
+    → AreWritten first out text (Between before) (pieces_at 10 bytes) (pieces_at 10 []) → text ≡ [] → Appends first out (upgraded bytes)
+written-all first out text bytes before w empty =
+    subst (Appends first out) (sym (w.are ∙ append-nil (w.written ++ text) ∙ ap (λ x. w.written ++ x) empty ∙ append-nil w.written)) w.appends
+
+-- what was written is a prefix
+pub written-cut : (first out : Option (List ℕ)) (text : List ℕ) (p : Position) (lines rest : List (List ℕ)) → AreWritten first out text p lines rest
+    → AppendsPrefix first out (upgraded_from (Between None) lines)
+written-cut first out text p lines rest w =
+    (w.written, text ++ upgraded_from p rest, w.are ∙ append_assoc w.written text (upgraded_from p rest), w.appends)
 
 pub added : {T E : Type 0} (r : Result T E) (new x y : List ℕ) → new ≡ cond (is_ok r) x y → OnOk r (new ≡ x)
 added (Ok v) new x y e = e

@@ -1,5 +1,5 @@
 //! The summary of each chain of a record: how many entries of each kind it has.
-ghost use Rattle.std.specs.Prelude.{◌≡◌, ◌+◌, ◌++◌, ◌∷◌, ◌-◌, ◌^◌, ◌<◌, [], IfErr, IfOk, None, OnOk, Ok, List, Some, length, map, ℕ};
+ghost use Rattle.std.specs.Prelude.{◌≡◌, ◌+◌, ◌++◌, ◌∷◌, ◌-◌, ◌^◌, ◌<◌, [], IfErr, IfOk, None, OnErr, OnOk, Ok, List, Some, length, map, ℕ};
 ghost use Rattle.ll_check.specs.Unread.{IsFaultOf, IsStopped};
 ghost use Rattle.ll_directive.specs.Targets.{WantValue};
 ghost use Rattle.ll_entry_check.specs.declared.full.FullEntry.{FullEntry};
@@ -166,8 +166,9 @@ impl Visitor<Vec<Summary>> for Counting {
 
 /// Counts `told`, what the next lines say: a chain begins with a chunk that has no entries before it.
 fn add(chains: &mut Vec<Summary>, told: &Told<'_>) -> Result<(), AllocError>
-    ensures { (before : List (List FullEntry)) → length (last_chain before) < 2 ^ 64 - 1 → chains.old.items ≡ map summary_of before
+    ensures counted { (before : List (List FullEntry)) → length (last_chain before) < 2 ^ 64 - 1 → chains.old.items ≡ map summary_of before
         → OnOk result (chains.new.items ≡ map summary_of (with_told before told.now)) }
+    ensures same { OnErr result (chains.new.items ≡ chains.old.items) }
 {
     match told {
         Told::Begun(_, 0) => chains.push(Summary::new())?,

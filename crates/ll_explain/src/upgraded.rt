@@ -1,13 +1,16 @@
 //! How a record is written in format 2.
-ghost use Rattle.std.specs.Prelude.{◌≡◌, ◌+◌, ◌++◌, ◌<◌, ◌^◌, [], ℕ, IsErrOf, List, OnOk, Ok, Some, true};
+ghost use Rattle.std.specs.Prelude.{◌≡◌, ◌+◌, ◌++◌, ◌<◌, ◌≤◌, ◌^◌, [], ℕ, IsErrOf, List, OnErr, OnOk, Ok, Some, drop, length, true};
+ghost use Rattle.std.specs.Io.{StartsWith};
 ghost use Rattle.std.specs.Io.KnownBytes.{Appends};
 ghost use Rattle.ll_check.specs.Unread.{IsFaultOf, IsStopped};
 ghost use Rattle.ll_check.specs.declared.source.RecordFault.{RecordFault as FaultValue};
+ghost use Rattle.ll_device.specs.Written.{AppendsPrefix};
 ghost use Rattle.ll_entry.specs.Chain.{checked};
 ghost use Rattle.ll_explain.specs.Upgrade as spec;
 ghost use Rattle.ll_explain.specs.Upgrade.{told_text, upgraded, upgraded_line};
 ghost use Rattle.ll_settings.specs.Settings.{Configuration};
 
+use crate::writing::write_text;
 use ll_attr::after;
 use ll_check::{RecordFault, Told, Visitor, go_over};
 use ll_device::Reader;
@@ -29,8 +32,8 @@ pub enum UpgradeFault {
 }
 
 /// Writes the record that is left in `source` to `out` in format 2: the same chunks. It is read in pieces, and written as it is read, up to
-/// the first entry at which it is wrong. The words of settings and items stay as they are. A request for `v2` in format 1 becomes one for
-/// `YES`, as it was answered.
+/// the first entry at which it is wrong: if it fails, a prefix was written. The words of settings and items stay as they are. A request for
+/// `v2` in format 1 becomes one for `YES`, as it was answered.
 pub fn upgrade<R: Reader, W: Write>(
     alloc: Global,
     source: &mut R,
@@ -38,6 +41,8 @@ pub fn upgrade<R: Reader, W: Write>(
 ) -> Result<(), UpgradeFault>
     ensures right { (input : List ℕ) → R.left source.old ≡ Some input
         → OnOk result (((n : ℕ) × (checked input ≡ Ok n)) × Appends (W.contents out.old) (W.contents out.new) (upgraded input)) }
+    ensures cut { (input : List ℕ) → R.left source.old ≡ Some input
+        → OnErr result (AppendsPrefix (W.contents out.old) (W.contents out.new) (upgraded input)) }
     ensures wrong { (input : List ℕ) → R.left source.old ≡ Some input → (f : FaultValue) → IsErrOf result (UpgradeFault.Record f) → IsFaultOf input f }
     ensures stopped { (f : FaultValue) → IsErrOf result (UpgradeFault.Record f)
         → IsStopped (R.failures source.old < R.failures source.new) (R.reads source.new ≡ R.reads source.old + 2 ^ 32) f }
@@ -50,16 +55,14 @@ pub fn upgrade<R: Reader, W: Write>(
     match go_over(alloc, source, &mut unwritten, out) {
         Ok(_) => {
             if unwritten.write(out) {
-                return Ok(());
+                Ok(())
+            } else {
+                Err(UpgradeFault::Write)
             }
         }
-        Err(fault) => {
-            if !unwritten.failed {
-                return Err(UpgradeFault::Record(fault));
-            }
-        }
+        Err(_) if unwritten.failed => Err(UpgradeFault::Write),
+        Err(fault) => Err(UpgradeFault::Record(fault)),
     }
-    Err(UpgradeFault::Write)
 }
 
 /// Lines in format 2 that aren't written yet.
@@ -77,7 +80,10 @@ impl<W: Write> Visitor<W> for Unwritten {
     ghost holds = { λ first unwritten out p lines rest. AreWritten (W.contents first) (W.contents out) unwritten.text.items p lines rest };
 
     fn visit(&mut self, out: &mut W, told: &Told<'_>) -> bool {
+        let before = self.text.len();
         if push_told(self.alloc, &mut self.text, told).is_err() {
+            // Serves the proof alone.
+            self.text.truncate(before);
             return false;
         }
         if self.text.len() < PIECE {
@@ -88,22 +94,31 @@ impl<W: Write> Visitor<W> for Unwritten {
 }
 
 impl Unwritten {
-    /// Writes the lines, and returns whether it could.
+    /// Writes the lines, and returns whether it could. What isn't written stays.
     fn write<W: Write>(&mut self, out: &mut W) -> bool
-        ensures { result ≡ true → Appends (W.contents out.old) (W.contents out.new) self.old.text.items × (self.new.text.items ≡ []) }
+        ensures written { (prefix : List ℕ) × (self.old.text.items ≡ prefix ++ self.new.text.items)
+            × Appends (W.contents out.old) (W.contents out.new) prefix }
+        ensures all { result ≡ true → self.new.text.items ≡ [] }
     {
-        if out.write_all(&self.text).is_err() || out.flush().is_err() {
-            self.failed = true;
-            return false;
-        }
-        self.text.clear();
-        true
+        let count = write_text(&self.text, out);
+        drop_front(&mut self.text, count);
+        self.failed = !self.text.is_empty() || out.flush().is_err();
+        !self.failed
     }
 }
 
-/// Appends the lines that say `told`, in format 2.
+/// Drops the first `count` bytes.
+fn drop_front(bytes: &mut Vec<u8>, count: usize)
+    requires { count ≤ length bytes.old.items }
+    ensures { bytes.new.items ≡ drop count bytes.old.items }
+{
+    bytes.drain(..count);
+}
+
+/// Appends the lines that say `told`, in format 2; out of memory, a part of them.
 fn push_told(alloc: Global, text: &mut Vec<u8>, told: &Told<'_>) -> Result<(), AllocError>
-    ensures { (c : Configuration) → OnOk result (text.new.items ≡ text.old.items ++ told_text c told.now) }
+    ensures front { StartsWith text.new.items text.old.items }
+    ensures lines { (c : Configuration) → OnOk result (text.new.items ≡ text.old.items ++ told_text c told.now) }
 {
     match told {
         Told::Begun(settings, at) => {
@@ -117,7 +132,7 @@ fn push_told(alloc: Global, text: &mut Vec<u8>, told: &Told<'_>) -> Result<(), A
     Ok(())
 }
 
-/// Appends the line of `entry` in format 2; `line` is its line in the format `version`.
+/// Appends the line of `entry` in format 2; out of memory, a part of it. `line` is its line in the format `version`.
 fn push_entry(
     alloc: Global,
     text: &mut Vec<u8>,
@@ -125,7 +140,8 @@ fn push_entry(
     line: &str,
     entry: &FullEntry,
 ) -> Result<(), AllocError>
-    ensures { (c : Configuration) → OnOk result (text.new.items ≡ text.old.items ++ upgraded_line version c line.now entry.now) }
+    ensures front { StartsWith text.new.items text.old.items }
+    ensures line { (c : Configuration) → OnOk result (text.new.items ≡ text.old.items ++ upgraded_line version c line.now entry.now) }
 {
     match (version, entry) {
         (Version::One, FullEntry::Publish) => {

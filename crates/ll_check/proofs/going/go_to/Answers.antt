@@ -1,13 +1,14 @@
 -- What is left of the record is known from the first read to the last.
 use Rattle.std.proofs.Common.{◌≡◌, ◌≤◌, ◌⊎◌, ◌∙◌, ℕ, List, None, ◌++◌, arith, inr, rules, subst}
 use Rattle.ll_attr.specs.Words.{pieces_at}
-use Rattle.ll_check.proofs.GoingLemmas.{GoingBy, by-early, by-elsewhere, by-first, by-goes, by-past, by-stay, going-early, going-found, going-over}
+use Rattle.ll_check.proofs.GoingLemmas.{GoingBy, by-early, by-elsewhere, by-ended, by-first, by-goes, by-held, by-past, by-stay, by-stayed, going-early, going-found, going-over}
 use Rattle.ll_check.proofs.SourceLemmas.{Reads, end-fault, fault-of, known-end, known-so, reads-first, reads-on, stayed-end, stayed-read}
 use Rattle.ll_check.proofs.StepLemmas.{GoesTo}
 use Rattle.ll_check.specs.Found.{IsAt}
-use Rattle.ll_check.specs.Going.{IsEarly, IsElsewhere, IsFound, StillHolds}
+use Rattle.ll_check.specs.Going.{IsEarly, IsElsewhere, IsFound}
 use Rattle.ll_check.specs.Passing.{IsWrongAt}
 use Rattle.ll_check.specs.Unread.{IsFaultOf}
+use Rattle.ll_check.specs.Visiting.{StaysWithin, StillHolds}
 use Rattle.ll_check.specs.declared.source.RecordFault.TheVariants.{Wrong}
 use Rattle.ll_entry.specs.Chain.{Between, Position}
 use Rattle.ll_check.proofs.going.go_to.Goals as goal
@@ -36,6 +37,14 @@ returns-in_err-found-clause-early g c input is =
     let fact : IsEarly c.args.entry (Wrong f) =
     known-so (g.R.Reader.left c.pieces.source) text (GoingBy g.V.Visitor.holds c.args.entry c.args.sink.now c.args.visitor.now c.pieces.checker c.pieces.visitor c.pieces.sink input) (IsEarly c.args.entry (Wrong f))
     (λ more h. inr (omega (arith, c.in_err-found.ensures.place h.now h.at))) (c.pieces.invariant.known input is) in
+    search (rules, fact)
+
+pub returns-in_err-found-clause-held : goal.returns-in_err-found-clause-held
+returns-in_err-found-clause-held g c input is =
+    let fact : StaysWithin g.V.Visitor.holds c.args.sink.now c.args.visitor.now c.pieces.visitor c.pieces.sink (pieces_at 10 input) =
+    known-so (g.R.Reader.left c.pieces.source) c.pieces.unread.text (GoingBy g.V.Visitor.holds c.args.entry c.args.sink.now c.args.visitor.now c.pieces.checker c.pieces.visitor c.pieces.sink input)
+    (StaysWithin g.V.Visitor.holds c.args.sink.now c.args.visitor.now c.pieces.visitor c.pieces.sink (pieces_at 10 input))
+    (λ more h. by-held g.V.Visitor.holds c.args.entry c.args.sink.now c.args.visitor.now c.pieces.checker c.pieces.visitor c.pieces.sink input (c.pieces.unread.text ++ more) h) (c.pieces.invariant.known input is) in
     search (rules, fact)
 
 pub returns-in-Some-clause-gone : goal.returns-in-Some-clause-gone
@@ -72,6 +81,17 @@ returns-in_err-pass-clause-early g c input is =
     (text ++ more) h) (c.pieces.invariant.known input is) in
     search (rules, fact)
 
+pub returns-in_err-pass-clause-held : goal.returns-in_err-pass-clause-held
+returns-in_err-pass-clause-held g c input is =
+    let other : (p : Position) (more : List ℕ) → IsAt c.pieces.checker p → IsElsewhere c.pieces.checker c.reply_at.new.checker p c.args.entry c.text.result.now more =
+    λ p more at. rw c.in_default.is at (c.in_ok-found.ensures.right p more at) in
+    let fact : StaysWithin g.V.Visitor.holds c.args.sink.now c.args.visitor.now c.pass.new.visitor c.pass.new.sink (pieces_at 10 input) =
+    known-so (g.R.Reader.left c.pieces.source) c.pieces.unread.text (GoingBy g.V.Visitor.holds c.args.entry c.args.sink.now c.args.visitor.now c.pieces.checker c.pieces.visitor c.pieces.sink input)
+    (StaysWithin g.V.Visitor.holds c.args.sink.now c.args.visitor.now c.pass.new.visitor c.pass.new.sink (pieces_at 10 input))
+    (λ more h. by-ended g.V.Visitor.holds c.args.entry c.args.sink.now c.args.visitor.now c.pieces.checker c.reply_at.new.checker c.pieces.visitor c.pass.new.visitor c.pieces.sink c.pass.new.sink
+    c.text.result.now c.pieces.unread.text other c.in_err-pass.ensures.ended input more h) (c.pieces.invariant.known input is) in
+    search (rules, fact)
+
 pub pieces-preserved-then-branch : goal.pieces-preserved-then-branch
 pieces-preserved-then-branch g c =
     let p = c.in_ok-pass.ensures.passed c.if-branch.true in
@@ -98,6 +118,26 @@ pieces-preserved g c =
     c.in_ok-read.ensures.once.1 c.in_ok-read.ensures.steady
     (by-stay g.V.Visitor.holds c.args.entry c.args.sink.now c.args.visitor.now c.pieces.checker c.reply_at.new.checker c.pass.new.checker c.pieces.visitor c.pass.new.visitor c.pieces.sink c.pass.new.sink c.text.result.now
     c.pieces.unread.text other s.0.short s.1 s.2)
+
+pub returns-in_err-read-clause-held : goal.returns-in_err-read-clause-held
+returns-in_err-read-clause-held g c input is =
+    let s = c.in_ok-pass.ensures.stayed c.if-branch.false in
+    let fact : StaysWithin g.V.Visitor.holds c.args.sink.now c.args.visitor.now c.pass.new.visitor c.pass.new.sink (pieces_at 10 input) =
+    known-so (g.R.Reader.left c.pieces.source) c.pieces.unread.text (GoingBy g.V.Visitor.holds c.args.entry c.args.sink.now c.args.visitor.now c.pieces.checker c.pieces.visitor c.pieces.sink input)
+    (StaysWithin g.V.Visitor.holds c.args.sink.now c.args.visitor.now c.pass.new.visitor c.pass.new.sink (pieces_at 10 input))
+    (λ more h. by-stayed g.V.Visitor.holds c.args.entry c.args.sink.now c.args.visitor.now c.pieces.checker c.pieces.visitor c.pass.new.visitor c.pieces.sink c.pass.new.sink s.1 s.2 input
+    (c.pieces.unread.text ++ more) h) (c.pieces.invariant.known input is) in
+    search (rules, fact)
+
+pub returns-in_err-end-clause-held : goal.returns-in_err-end-clause-held
+returns-in_err-end-clause-held g c input is =
+    let s = c.in_ok-pass.ensures.stayed c.if-branch.false in
+    let fact : StaysWithin g.V.Visitor.holds c.args.sink.now c.args.visitor.now c.pass.new.visitor c.pass.new.sink (pieces_at 10 input) =
+    known-so (g.R.Reader.left c.pieces.source) c.pieces.unread.text (GoingBy g.V.Visitor.holds c.args.entry c.args.sink.now c.args.visitor.now c.pieces.checker c.pieces.visitor c.pieces.sink input)
+    (StaysWithin g.V.Visitor.holds c.args.sink.now c.args.visitor.now c.pass.new.visitor c.pass.new.sink (pieces_at 10 input))
+    (λ more h. by-stayed g.V.Visitor.holds c.args.entry c.args.sink.now c.args.visitor.now c.pieces.checker c.pieces.visitor c.pass.new.visitor c.pieces.sink c.pass.new.sink s.1 s.2 input
+    (c.pieces.unread.text ++ more) h) (c.pieces.invariant.known input is) in
+    search (rules, fact)
 
 pub returns-in_err-end-clause-wrong : goal.returns-in_err-end-clause-wrong
 returns-in_err-end-clause-wrong g c input is =

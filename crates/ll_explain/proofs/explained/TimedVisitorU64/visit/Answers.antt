@@ -4,6 +4,6 @@ use Rattle.ll_explain.proofs.ExplainLemmas.{time-told}
 use Rattle.ll_explain.specs.Seeking.{time_told}
 use Rattle.ll_explain.proofs.explained.TimedVisitorU64.visit.Goals as goal
 
-pub returns : goal.returns
-returns c = λ first p next lines mid rest held by few on.
+pub returns-clause-on : goal.returns-clause-on
+returns-clause-on c = λ first p next lines mid rest held by few on.
     c.time_after.ensures ∙ ap (λ ms. time_told ms c.args.told.now) held ∙ time-told p next c.args.told.now mid rest by
