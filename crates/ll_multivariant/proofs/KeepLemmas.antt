@@ -1,7 +1,7 @@
 -- What is kept is that of the chains so far, one step after another.
 use Rattle.std.proofs.Common.{◌≡◌, ℕ, zero, suc, List, [], ◌∷◌, ◌++◌, Bool, true, false, cond, Option, Some, None, Result, Ok, Err, refl, ap, sym, subst, ◌∙◌, append_assoc, append-nil, length, arith, rules, OnOk, is_err, true≢false}
 use Rattle.std.specs.Str.{is_utf8}
-use Rattle.ll_attr.specs.Words.{additions_at}
+use Rattle.ll_attr.specs.Words.{pieces_at}
 use Rattle.ll_check.proofs.Begun.{Another, GoesOn, Next, Onward, begun_lines}
 use Rattle.ll_check.proofs.Places.{first-at}
 use Rattle.ll_check.proofs.StepLemmas.{GoesTo, moved, over-at}
@@ -106,21 +106,21 @@ keeps-first checker lines kept none is = record { now = Between None; at = first
 
 -- the next lines were read
 pub keeps-next : (checker new : Option ChainValue) (t : Told) (lines mid : List (List ℕ)) (rest : List ℕ) (kept more : KeptValue) → Keeps checker lines mid kept
-    → ((q : Position) → IsAt checker q → Moves new q t mid (additions_at 10 rest)) → AddsTold kept more t → Keeps new lines (additions_at 10 rest) more
+    → ((q : Position) → IsAt checker q → Moves new q t mid (pieces_at 10 rest)) → AddsTold kept more t → Keeps new lines (pieces_at 10 rest) more
 keeps-next checker new t lines mid rest kept more k on a =
     let m = on k.now k.at in
     record {
       now = m.next;
       at = m.at;
       same = k.same ∙ moved k.now m.next t mid rest m.by;
-      are = kept-told k.now m.next t mid (additions_at 10 rest) kept more m.by k.are a;
+      are = kept-told k.now m.next t mid (pieces_at 10 rest) kept more m.by k.are a;
     }
 
 pub goes-kept : (checker : Option ChainValue) (lines rest : List (List ℕ)) (kept : KeptValue) → Keeps checker lines rest kept → GoesTo checker (Between None) lines rest
 goes-kept checker lines rest kept k = record { now = k.now; at = k.at; same = k.same }
 
 -- no text is left: what is kept is that of the last chain
-pub keeps-all : (checker new : Option ChainValue) (lines : List (List ℕ)) (rest : List ℕ) (kept : KeptValue) → Keeps checker lines (additions_at 10 rest) kept
+pub keeps-all : (checker new : Option ChainValue) (lines : List (List ℕ)) (rest : List ℕ) (kept : KeptValue) → Keeps checker lines (pieces_at 10 rest) kept
     → ((q : Position) → IsAt checker q → IsOver checker new q rest)
     → (before : Option Chain) × IsAt new (Between before) × (checked_from (Between None) lines ≡ Ok before) × (kept ≡ kept_of before)
 keeps-all checker new lines rest kept k over =

@@ -1,6 +1,6 @@
 //! What is kept of the last chain of a record while it is read: its settings, and what its items add to segments.
 ghost use Rattle.std.specs.Prelude.{◌≡◌, ◌≢◌, IfErr, IfOk, List, None, OnOk, Ok, Err, Option, Some, true, ℕ};
-ghost use Rattle.ll_attr.specs.Words.{additions_at};
+ghost use Rattle.ll_attr.specs.Words.{pieces_at};
 ghost use Rattle.ll_entry.specs.Chain.{Between, Chain, checked, checked_from};
 ghost use Rattle.ll_entry.specs.Entered.{event_of};
 ghost use Rattle.ll_entry.specs.Entries.{entry_in};
@@ -41,7 +41,7 @@ impl Model for Kept {
 /// The fault of the record, as [`check`](ll_check::check) has it; Memory if out of memory.
 pub(crate) fn last_chain(alloc: Global, chunks: &[u8]) -> Result<Kept, CheckFault>
     ensures right { OnOk result ((n : ℕ) × (checked chunks.now ≡ Ok n)) }
-    ensures kept { IfOk result (λ k. (ch : Chain) × (checked_from (Between None) (additions_at 10 chunks.now) ≡ Ok (Some ch)) × (k ≡ kept_of (Some ch))) }
+    ensures kept { IfOk result (λ k. (ch : Chain) × (checked_from (Between None) (pieces_at 10 chunks.now) ≡ Ok (Some ch)) × (k ≡ kept_of (Some ch))) }
     ensures wrong { IfErr result (λ f. f.kind ≢ CheckKind.Memory → checked chunks.now ≡ Err f) }
 {
     let mut checker = Checker::new(alloc);
@@ -52,7 +52,7 @@ pub(crate) fn last_chain(alloc: Global, chunks: &[u8]) -> Result<Kept, CheckFaul
 fn last_chain_by(alloc: Global, checker: &mut Checker, chunks: &[u8]) -> Result<Kept, CheckFault>
     requires { checker.old ≡ None }
     ensures right { OnOk result ((n : ℕ) × (checked chunks.now ≡ Ok n)) }
-    ensures kept { IfOk result (λ k. (ch : Chain) × (checked_from (Between None) (additions_at 10 chunks.now) ≡ Ok (Some ch)) × (k ≡ kept_of (Some ch))) }
+    ensures kept { IfOk result (λ k. (ch : Chain) × (checked_from (Between None) (pieces_at 10 chunks.now) ≡ Ok (Some ch)) × (k ≡ kept_of (Some ch))) }
     ensures wrong { IfErr result (λ f. f.kind ≢ CheckKind.Memory → checked chunks.now ≡ Err f) }
 {
     let mut kept = Kept {
@@ -96,7 +96,7 @@ impl Kept {
         let Some(settings) = &self.settings else {
             return Ok(());
         };
-        if let Some(addition) = read_piece(alloc, version, settings, line)? {
+        if let Some(addition) = read_addition(alloc, version, settings, line)? {
             self.additions.push(addition)?;
         }
         Ok(())
@@ -114,7 +114,7 @@ fn read_settings(alloc: Global, line: &str) -> Result<Settings, AllocError>
 }
 
 /// Reads the entry of `line`, which is right, and returns what its item adds to segments, if it is one.
-fn read_piece(
+fn read_addition(
     alloc: Global,
     version: Version,
     settings: &Settings,

@@ -1,6 +1,6 @@
 //! The Multivariant Playlist of a channel.
 ghost use Rattle.std.specs.Prelude.{◌≡◌, ◌≢◌, IfOk, IsErrOf, None, Ok, Err, Some, string_bytes};
-ghost use Rattle.ll_attr.specs.Words.{additions_at};
+ghost use Rattle.ll_attr.specs.Words.{pieces_at};
 ghost use Rattle.ll_entry.specs.Chain.{Between, Chain, checked, checked_from};
 ghost use Rattle.ll_entry.specs.declared.fault.CheckFault.{CheckFault};
 ghost use Rattle.ll_multivariant.specs.Keeping.{kept_of};
@@ -20,7 +20,7 @@ pub fn multivariant(
     chunks: &[u8],
     sources: &[NamedSection],
 ) -> Result<String, MultivariantFault>
-    ensures text { IfOk result (λ t. (ch : Chain) × (checked_from (Between None) (additions_at 10 chunks.now) ≡ Ok (Some ch))
+    ensures text { IfOk result (λ t. (ch : Chain) × (checked_from (Between None) (pieces_at 10 chunks.now) ≡ Ok (Some ch))
         × (spec.multivariant ch sources.now ≡ Ok (string_bytes t))) }
     ensures wrong { (f : CheckFault) → IsErrOf result (MultivariantFault.Wrong f) → f.kind ≢ CheckKind.Memory → checked chunks.now ≡ Err f }
 {
