@@ -1,23 +1,21 @@
 -- What is kept while a record is gone over: where the lines so far lead, and that the entry that is looked for is still to come.
-use Rattle.std.proofs.Common.{◌≡◌, ◌≢◌, ◌⊎◌, inl, inr, ◌+◌, ◌<◌, ◌≤◌, ℕ, zero, suc, List, [], ◌∷◌, ◌++◌, true, false, not, Option, Some, None, Result, Ok, Err, IfErr, IfOk, MatchOption, refl, ap, ◌∙◌, subst, sym, true≢false, length, length-append, arith}
+use Rattle.std.proofs.Common.{◌≡◌, ◌≢◌, ◌⊎◌, inl, inr, ◌+◌, ◌≤◌, ℕ, zero, suc, List, [], ◌∷◌, ◌++◌, true, false, not, Option, Some, None, Result, Ok, Err, IfErr, IfOk, MatchOption, refl, ap, ◌∙◌, subst, sym, true≢false, length-append, arith}
 use Rattle.ll_attr.specs.Words.{pieces_at}
 use Rattle.ll_check.proofs.Begun.{entry_line}
 use Rattle.ll_check.proofs.LaterLemmas.{Keeps, keeps_begun}
 use Rattle.ll_check.proofs.Places.{first-at}
-use Rattle.ll_check.proofs.ReachedLemmas.{Passed, passed-first, passed-then, passed-told}
-use Rattle.ll_check.proofs.SourceLemmas.{fault-of, full-of, stayed-end}
+use Rattle.ll_check.proofs.ReachedLemmas.{passed-first, passed-then, passed-told}
+use Rattle.ll_check.proofs.SourceLemmas.{full-of}
 use Rattle.ll_check.proofs.StepLemmas.{GoesTo, moved}
 use Rattle.ll_check.specs.EntryReplies.{Brings, BringsNone}
 use Rattle.ll_check.specs.Found.{ChainValue, IsAt, so_far}
 use Rattle.ll_check.specs.Going.{HasGone, IsAhead, IsElsewhere, IsFound, IsHere}
-use Rattle.ll_check.specs.Lines.{IsShort, lines_at}
-use Rattle.ll_check.specs.Passing.{HasPassed, HasStayed, IsWrongAt}
+use Rattle.ll_check.specs.Lines.{IsShort}
+use Rattle.ll_check.specs.Passing.{HasPassed, IsWrongAt}
 use Rattle.ll_check.specs.Steps.{IsOver, Tells, has_entry}
-use Rattle.ll_check.specs.Unread.{IsFaultOf, UnreadValue}
-use Rattle.ll_check.specs.Visiting.{HasEnded, HasVisited, Holds, StaysWithin, StillHolds}
+use Rattle.ll_check.specs.Visiting.{HasEnded, HasVisited, Holds, HoldsWithin, Passed, StaysWithin, StillHolds}
 use Rattle.ll_check.specs.declared.going.Reached.TheVariants.{End}
 use Rattle.ll_check.specs.declared.replies.EntryReply.{EntryReply}
-use Rattle.ll_check.specs.declared.source.RecordFault.TheVariants.{Wrong}
 use Rattle.ll_check.specs.declared.told.Told.{Told}
 use Rattle.ll_check.specs.declared.told.Told.TheVariants as told
 use Rattle.ll_entry.specs.Chain.{Between, Chain, Inside, Position, checked, checked_from, counted, entries, not_before, text_in}
@@ -195,6 +193,12 @@ going-early kept entry n P lines rest g place = early entry (entries (so_far g.n
 
 -- ---- the visitor
 
+-- it ended the reading before the next lines, or after them
+pub ended-at : {S V : Type 0} (holds : Holds S V) (first : S) (new : V) (after : S) (lines : List (List ℕ)) (p next : Position) (t : Told) (mid rest : List (List ℕ))
+    → Tells p t next mid rest → (holds first new after p lines mid) ⊎ (holds first new after next lines rest) → HoldsWithin holds first new after lines p mid
+ended-at holds first new after lines p next t mid rest by (inl h) = (p, mid, passed-first p mid, h)
+ended-at holds first new after lines p next t mid rest by (inr h) = (next, rest, passed-told p next t mid rest by, h)
+
 module _ {S V : Type 0} (holds : Holds S V) (entry : ℕ) (first : S) (start : V) where
   -- a record is gone over, and what holds of the visitor and its sink holds at the rest of it
   abbrev pub GoingBy : Option ChainValue → V → S → List ℕ → List ℕ → Type 0
@@ -240,7 +244,7 @@ module _ {S V : Type 0} (holds : Holds S V) (entry : ℕ) (first : S) (start : V
   -- after an error, what held of them still does
   pub by-held : (kept : Option ChainValue) (visitor : V) (sink : S) (input rest : List ℕ) → GoingBy kept visitor sink input rest
       → StaysWithin holds first start visitor sink (pieces_at 10 input)
-  by-held kept visitor sink input rest g = λ begun. (g.now, pieces_at 10 rest, g.held begun)
+  by-held kept visitor sink input rest g = λ begun. (g.now, pieces_at 10 rest, g.passed, g.held begun)
 
   pub by-stayed : (kept : Option ChainValue) (old next : V) (sink after : S) → next ≡ old → after ≡ sink → (input rest : List ℕ) → GoingBy kept old sink input rest
       → StaysWithin holds first start next after (pieces_at 10 input)
@@ -252,4 +256,6 @@ module _ {S V : Type 0} (holds : Holds S V) (entry : ℕ) (first : S) (start : V
       → ((p : Position) (more : List ℕ) → IsAt kept p → IsElsewhere kept mid p entry looked more) → HasEnded holds mid text old sink new after
       → (input more : List ℕ) → GoingBy kept old sink input (text ++ more) → StaysWithin holds first start new after (pieces_at 10 input)
   by-ended kept mid old new sink after looked text other ended input more g = λ begun.
-      ended first g.now (pieces_at 10 input) more (subst (λ k. IsAt k g.now) (sym (other g.now [] g.at).same) g.at) (g.held begun)
+      let lines = pieces_at 10 input in
+      let e = ended first g.now lines more (subst (λ k. IsAt k g.now) (sym (other g.now [] g.at).same) g.at) (g.held begun) in
+      (e.0, e.1, passed-then (Between None) g.now e.0 lines (pieces_at 10 (text ++ more)) e.1 g.passed e.2, e.3)

@@ -1,6 +1,7 @@
 -- Where lines lead that are right, one after another.
 use Rattle.std.proofs.Common.{◌≡◌, List, [], ◌∷◌, ◌++◌, ℕ, Bool, true, false, cond, Option, Some, Result, Ok, Err, refl, ap, ◌∙◌, sym, append_assoc, bytes_eq}
 use Rattle.ll_check.specs.Steps.{Tells, reached, reached_by}
+use Rattle.ll_check.specs.Visiting.{Passed}
 use Rattle.ll_check.specs.declared.told.Told.{Told}
 use Rattle.ll_check.specs.declared.told.Told.TheVariants as told
 use Rattle.ll_entry.specs.Chain.{Between, Chain, Inside, Position, begun, text_in, with_line}
@@ -35,12 +36,6 @@ reached-onward (Inside ch) (line ∷ lines) more q h =
     (reached-onward (Between (Some ch)) lines more q)
     (by_onward (with_line ch line) (λ now. reached (Inside now) lines) (λ now. reached (Inside now) (lines ++ more)) q (reached q more)
     (λ now. reached-onward (Inside now) lines more q)) h
-
--- the lines that lead from one position to the other, before the rest
-pub record Passed (p q : Position) (lines rest : List (List ℕ)) : Type 0 where
-  pub passed : List (List ℕ)
-  pub are : lines ≡ passed ++ rest
-  pub leads : reached p passed ≡ Some q
 
 pub passed-first : (p : Position) (lines : List (List ℕ)) → Passed p p lines lines
 passed-first (Between before) lines = record { passed = []; are = refl; leads = refl }

@@ -1,8 +1,8 @@
 -- What holds of a visitor and its sink while the lines of a record are passed to it.
-use Rattle.std.specs.Prelude.{ℕ, List, ◌++◌, Option, None}
+use Rattle.std.specs.Prelude.{◌≡◌, ℕ, List, ◌++◌, Option, None, Some}
 use Rattle.ll_attr.specs.Words.{pieces_at}
 use Rattle.ll_check.specs.Found.{ChainValue, IsAt}
-use Rattle.ll_check.specs.Steps.{Tells}
+use Rattle.ll_check.specs.Steps.{Tells, reached}
 use Rattle.ll_check.specs.declared.told.Told.{Told}
 use Rattle.ll_entry.specs.Chain.{Between, Position}
 
@@ -14,13 +14,20 @@ Holds S V = S → V → S → Position → List (List ℕ) → List (List ℕ) �
 abbrev pub StillHolds : {S V : Type 0} → Holds S V → S → V → V → S → List (List ℕ) → Position → List (List ℕ) → Type 0
 StillHolds holds first old new sink lines p rest = holds first old first (Between None) lines lines → holds first new sink p lines rest
 
--- it holds after some of these lines
-abbrev pub HoldsWithin : {S V : Type 0} → Holds S V → S → V → S → List (List ℕ) → Type 0
-HoldsWithin holds first visitor sink lines = (p : Position) × (rest : List (List ℕ)) × holds first visitor sink p lines rest
+-- the lines that lead from one position to the other, before the rest
+pub record Passed (p q : Position) (lines rest : List (List ℕ)) : Type 0 where
+  pub passed : List (List ℕ)
+  pub are : lines ≡ passed ++ rest
+  pub leads : reached p passed ≡ Some q
+
+-- it holds after some of the lines that are left at a position
+abbrev pub HoldsWithin : {S V : Type 0} → Holds S V → S → V → S → List (List ℕ) → Position → List (List ℕ) → Type 0
+HoldsWithin holds first visitor sink lines p left =
+    (q : Position) × (rest : List (List ℕ)) × Passed p q left rest × holds first visitor sink q lines rest
 
 -- it holds after some of these lines, if it held before the first line
 abbrev pub StaysWithin : {S V : Type 0} → Holds S V → S → V → V → S → List (List ℕ) → Type 0
-StaysWithin holds first old new sink lines = holds first old first (Between None) lines lines → HoldsWithin holds first new sink lines
+StaysWithin holds first old new sink lines = holds first old first (Between None) lines lines → HoldsWithin holds first new sink lines (Between None) lines
 
 -- ---- for private contracts
 
@@ -34,4 +41,4 @@ HasVisited {S} {V} holds kept old sink told new after =
 abbrev pub HasEnded : {S V : Type 0} → Holds S V → Option ChainValue → List ℕ → V → S → V → S → Type 0
 HasEnded {S} {V} holds kept text old sink new after =
     (first : S) (p : Position) (lines : List (List ℕ)) (more : List ℕ) → IsAt kept p → holds first old sink p lines (pieces_at 10 (text ++ more))
-    → HoldsWithin holds first new after lines
+    → HoldsWithin holds first new after lines p (pieces_at 10 (text ++ more))

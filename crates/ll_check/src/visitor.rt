@@ -1,8 +1,8 @@
 //! What the lines of a record are passed to while it is read in pieces.
-ghost use Rattle.std.specs.Prelude.{◌≡◌, ◌≤◌, ◌^◌, List, false, true, ℕ};
+ghost use Rattle.std.specs.Prelude.{◌≡◌, ◌≤◌, ◌⊎◌, ◌^◌, List, false, true, ℕ};
 ghost use Rattle.ll_check.specs.Found.{so_far};
 ghost use Rattle.ll_check.specs.Steps.{Tells};
-ghost use Rattle.ll_check.specs.Visiting.{Holds, HoldsWithin};
+ghost use Rattle.ll_check.specs.Visiting.{Holds};
 ghost use Rattle.ll_entry.specs.Chain.{Position, entries};
 
 use crate::told::Told;
@@ -17,7 +17,8 @@ pub trait Visitor<S> {
         ensures on { (first : S) (p next : Position) (lines mid rest : List (List ℕ)) → holds first self.old sink.old p lines mid
             → Tells p told.now next mid rest → entries (so_far p) ≤ 2 ^ 63 → result ≡ true → holds first self.new sink.new next lines rest }
         ensures ended { (first : S) (p next : Position) (lines mid rest : List (List ℕ)) → holds first self.old sink.old p lines mid
-            → Tells p told.now next mid rest → entries (so_far p) ≤ 2 ^ 63 → result ≡ false → HoldsWithin holds first self.new sink.new lines };
+            → Tells p told.now next mid rest → entries (so_far p) ≤ 2 ^ 63 → result ≡ false
+            → (holds first self.new sink.new p lines mid) ⊎ (holds first self.new sink.new next lines rest) };
 }
 
 /// A visitor to whom all lines are the same.

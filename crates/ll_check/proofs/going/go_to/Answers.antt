@@ -1,8 +1,8 @@
 -- What is left of the record is known from the first read to the last.
-use Rattle.std.proofs.Common.{◌≡◌, ◌≤◌, ◌⊎◌, ◌∙◌, ℕ, List, None, ◌++◌, arith, inr, rules, subst}
+use Rattle.std.proofs.Common.{◌∙◌, ℕ, List, None, ◌++◌, arith, inr, rules, subst}
 use Rattle.ll_attr.specs.Words.{pieces_at}
 use Rattle.ll_check.proofs.GoingLemmas.{GoingBy, by-early, by-elsewhere, by-ended, by-first, by-goes, by-held, by-past, by-stay, by-stayed, going-early, going-found, going-over}
-use Rattle.ll_check.proofs.SourceLemmas.{Reads, end-fault, fault-of, known-end, known-so, reads-first, reads-on, stayed-end, stayed-read}
+use Rattle.ll_check.proofs.SourceLemmas.{end-fault, fault-of, known-end, known-so, reads-first, reads-on, stayed-end, stayed-read}
 use Rattle.ll_check.proofs.StepLemmas.{GoesTo}
 use Rattle.ll_check.specs.Found.{IsAt}
 use Rattle.ll_check.specs.Going.{IsEarly, IsElsewhere, IsFound}

@@ -1,7 +1,9 @@
 -- What the checker has gone over of the text that was read, and what the visitor did.
-use Rattle.std.proofs.Common.{◌≡◌, ◌≢◌, ◌≤◌, ◌^◌, ◌+◌, ◌++◌, ◌∙◌, [], ap, refl, rules, sym, subst, true}
+use Rattle.std.proofs.Common.{◌≤◌, ◌^◌, ◌+◌, ◌++◌, ◌∙◌, [], ap, refl, rules, sym, subst}
 use Rattle.ll_attr.specs.Words.{pieces_at}
+use Rattle.ll_check.proofs.GoingLemmas.{ended-at}
 use Rattle.ll_check.proofs.LaterLemmas.{later-as}
+use Rattle.ll_check.proofs.ReachedLemmas.{passed-first}
 use Rattle.ll_check.proofs.SourceLemmas.{has-passed}
 use Rattle.ll_check.specs.Lines.{IsBehind, IsShort}
 use Rattle.ll_check.specs.Steps.{Moves, Tells}
@@ -22,7 +24,7 @@ returns-in_default-clause-stayed g c = λ _. (
 pub returns-in_err-told-clause-ended : goal.returns-in_err-told-clause-ended
 returns-in_err-told-clause-ended g c =
     let fact : HasEnded g.V.Visitor.holds c.args.checker.now c.args.unread.now.text c.args.visitor.now c.args.sink.now c.args.visitor.now c.args.sink.now =
-    λ first p lines more at held. (p, pieces_at 10 (c.args.unread.now.text ++ more), held) in
+    λ first p lines more at held. let mid = pieces_at 10 (c.args.unread.now.text ++ more) in (p, mid, passed-first p mid, held) in
     search (rules, fact)
 
 pub returns-clause-passed : goal.returns-clause-passed
@@ -50,6 +52,8 @@ pub returns-then-not-visit-clause-ended : goal.returns-then-not-visit-clause-end
 returns-then-not-visit-clause-ended g c = λ first p lines more at held.
     let rest = pieces_at 10 (c.in-Some.rest.now ++ more) in
     let m : Moves c.step.new.self p c.in-Some.told (pieces_at 10 (c.text.result.now ++ more)) rest = rw c.in-Some.is at (c.in_ok-told.ensures.right p more at) in
-    c.visit.ensures.ended first p m.next lines (pieces_at 10 (c.args.unread.now.text ++ more)) rest held
-    (subst (λ t. Tells p c.in-Some.told m.next (pieces_at 10 (t ++ more)) rest) c.text.ensures m.by)
-    (subst (λ n. n ≤ 2 ^ 63) (c.entries-entry.ensures.value p at) c.entries-entry.ensures.few) c.if-not-visit.true
+    let mid = pieces_at 10 (c.args.unread.now.text ++ more) in
+    let by : Tells p c.in-Some.told m.next mid rest = subst (λ t. Tells p c.in-Some.told m.next (pieces_at 10 (t ++ more)) rest) c.text.ensures m.by in
+    ended-at g.V.Visitor.holds first c.visit.new.self c.visit.new.sink lines p m.next c.in-Some.told mid rest by
+    (c.visit.ensures.ended first p m.next lines mid rest held by (subst (λ n. n ≤ 2 ^ 63) (c.entries-entry.ensures.value p at) c.entries-entry.ensures.few)
+    c.if-not-visit.true)

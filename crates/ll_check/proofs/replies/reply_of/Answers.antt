@@ -1,6 +1,5 @@
 -- What is said of a line holds of the text that it begins.
-use Rattle.std.proofs.Common.{◌≡◌, ◌≢◌, ◌∷◌, ◌++◌, IfErr, Some, subst, sym}
-use Rattle.ll_attr.specs.Words.{pieces_at}
+use Rattle.std.proofs.Common.{◌≡◌, ◌≢◌, ◌++◌, IfErr, Some, subst, sym}
 use Rattle.ll_check.proofs.ReplyLemmas.{reply-in}
 use Rattle.ll_entry.specs.Chain.{Inside, checked_from, wrong}
 use Rattle.ll_entry.specs.declared.fault.CheckKind.TheVariants.{Memory}

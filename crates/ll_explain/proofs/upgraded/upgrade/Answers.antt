@@ -29,10 +29,10 @@ pub returns-in-Err-clause-cut : goal.returns-in-Err-clause-cut
 returns-in-Err-clause-cut g c input is =
     let first = g.W.Write.contents c.args.out.now in
     let h = c.in-Err.ensures.held input is (written-first first c.new.result.items (pieces_at 10 input) c.new.ensures.items) in
-    written-cut first (g.W.Write.contents c.go_over.new.sink) c.go_over.new.visitor.text.items h.0 (pieces_at 10 input) h.1 h.2
+    written-cut first (g.W.Write.contents c.go_over.new.sink) c.go_over.new.visitor.text.items h.0 (pieces_at 10 input) h.1 h.3
 
 pub returns-clause-cut : goal.returns-clause-cut
 returns-clause-cut g c input is =
     let first = g.W.Write.contents c.args.out.now in
     let h = c.in-Err-2.ensures.held input is (written-first first c.new.result.items (pieces_at 10 input) c.new.ensures.items) in
-    written-cut first (g.W.Write.contents c.go_over.new.sink) c.go_over.new.visitor.text.items h.0 (pieces_at 10 input) h.1 h.2
+    written-cut first (g.W.Write.contents c.go_over.new.sink) c.go_over.new.visitor.text.items h.0 (pieces_at 10 input) h.1 h.3

@@ -1,5 +1,5 @@
 -- The next lines are counted, or nothing changes.
-use Rattle.std.proofs.Common.{subst, sym, ◌∙◌}
+use Rattle.std.proofs.Common.{inl, subst, sym, ◌∙◌}
 use Rattle.ll_explain.proofs.ChainLemmas.{counted-next, err-on, ok-on}
 use Rattle.ll_explain.specs.Counting.{AreCounted}
 use Rattle.ll_explain.proofs.summary.CountingVisitorVecSummary.visit.Goals as goal
@@ -12,4 +12,4 @@ returns-clause-on c = λ first p next lines mid rest held by few on.
 pub returns-clause-ended : goal.returns-clause-ended
 returns-clause-ended c = λ first p next lines mid rest held by few off.
     let same = err-on c.add.result _ (sym c.is_ok.ensures.value ∙ off) c.add.ensures.same in
-    (p, mid, subst (λ all. AreCounted all p lines mid) (sym same) held)
+    inl (subst (λ all. AreCounted all p lines mid) (sym same) held)
