@@ -3,10 +3,11 @@ import functools
 import random
 
 import push_model
+from push_joined import Lengths
 from push_made import FTYP, MDAT, MOOV, PLAIN, box, fragment, moof, movie, numbers, track
 
 # The lengths that every push here asks for, in microseconds.
-LENGTHS = push_model.Lengths(part=500000, segment=2000000, most=3000000)
+LENGTHS = Lengths(part=500000, segment=2000000, most=3000000)
 
 # A movie of 1,000 ticks a second, and then fragments: the ticks of their samples, and whether each begins with a sync sample.
 STREAMS = {

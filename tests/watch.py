@@ -10,6 +10,8 @@ import sys
 import time
 
 import push_model
+from push_boxes import Movie, elements
+from push_joined import Shift
 from rooms import check, ended, try_named
 from serve_room import HERE, ServeRoom
 
@@ -55,9 +57,9 @@ def frames(room, source):
 
 def later(part, micros):
     """Returns a part of the file with its times `micros` microseconds later."""
-    movie = next(each for each in push_model.elements(FILE.read_bytes()) if isinstance(each, push_model.Movie))
+    movie = next(each for each in elements(FILE.read_bytes()) if isinstance(each, Movie))
     tracks = tuple((track.id, track.scale) for track in movie.tracks)
-    return push_model.moved(part, push_model.Shift(tracks, movie.governing.scale, 0, micros))
+    return push_model.moved(part, Shift(tracks, movie.governing.scale, 0, micros))
 
 
 def plays(room):
