@@ -194,7 +194,8 @@ def at_their_times(run, items):
 
 def hints(notes):
     """Returns how many parts playlists hinted at, from the first one that was held on, and those of them that weren't asked for before the next playlist began to be answered."""
-    lists = [note for note in notes if 'live.m3u8' in note.path and note.status == 200]
+    # (A note comes after its answer, so one of a later answer may stand before it.)
+    lists = sorted((note for note in notes if 'live.m3u8' in note.path and note.status == 200), key=lambda note: note.answered)
     held = next(number for number, note in enumerate(lists) if '_HLS_msn' in note.path)
     asked = {}
     for note in notes:
