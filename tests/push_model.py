@@ -1,9 +1,9 @@
 #!/usr/bin/env python3
-"""A second implementation of what `llhls push` sends of an encoder's output: tests/push.py compares the program with it.
+"""A second implementation of what `llhls push` sends of an encoder's output: tests/push.py compares the program with it. It is in three files:
 
-    elements(data)                     the units of the stream, read one by one; the fault that ends it, if one does
-    joined(elements, lengths, end)     the pieces: initialization sections, parts, breaks; and the fault
-    sent(part)                         the bytes of a part as they are sent
+    elements(data)                     the units of the stream, read one by one; the fault that ends it, if one does: push_boxes.py
+    joined(elements, lengths, end)     the pieces: initialization sections, parts, breaks; and the fault: push_joined.py
+    messages(data, lengths)            what is sent of them: this file
 
 Numbers are natural numbers: `//` rounds down, `minus` is 0 if it would be negative. It reads the whole stream at once, and recurses over its fragments; the program takes a unit at a time.
 """
