@@ -1,5 +1,5 @@
 -- The command that the program's words spell.
-use Rattle.std.specs.Prelude.{ℕ, ◌+◌, ◌-◌, ◌/◌, ◌^◌, ◌&&◌, ◌==◌, Bool, true, false, max, min, nat_le, List, [], ◌∷◌, Option, Some, None, Result, Ok, Err, bytes_eq, codes, length, not, option_and_then, option_map, if◌then◌else◌}
+use Rattle.std.specs.Prelude.{ℕ, ◌+◌, ◌-◌, ◌/◌, ◌^◌, ◌&&◌, ◌||◌, ◌==◌, Bool, true, false, max, min, nat_le, List, [], ◌∷◌, Option, Some, None, Result, Ok, Err, bytes_eq, codes, length, not, option_and_then, option_map, if◌then◌else◌}
 use Rattle.std.specs.Option.{unwrap_or}
 use Rattle.ll_attr.specs.Words.{after}
 use Rattle.ll_command.specs.declared.command.Command.{Command}
@@ -8,6 +8,8 @@ use Rattle.ll_command.specs.declared.fault.Fault.{Fault}
 use Rattle.ll_entry.specs.Replies.{count}
 use Rattle.ll_settings.specs.Names.{is_name}
 use Rattle.ll_command.specs.declared.plan.Plan.{Plan}
+use Rattle.ll_command.specs.declared.topic.Topic.{Topic}
+use Rattle.ll_command.specs.declared.topic.Topic.TheVariants as topic
 use Rattle.ll_command.specs.declared.fault.Fault.TheVariants.{Usage}
 
 pub data Call : Type 0 where
@@ -29,27 +31,64 @@ pub data Call : Type 0 where
   Multivariant : List ℕ → List (List ℕ) → Call
   -- write the version
   Version : Call
+  -- write how the program, or one of its commands, is used
+  Help : Topic → Call
   -- publish what an encoder writes to standard input: at addresses, in a channel and a rendition, by a plan, with the secret in a file
   Push : List ℕ → List ℕ → List ℕ → Plan → Option (List ℕ) → Call
+
+-- the command called `name`, as what help is asked for
+abbrev pub topic_named : List ℕ → Option Topic
+topic_named name =
+    if bytes_eq name (codes "serve") then Some topic.Serve
+    else if bytes_eq name (codes "push") then Some topic.Push
+    else if bytes_eq name (codes "replay") then Some topic.Replay
+    else if bytes_eq name (codes "check") then Some topic.Check
+    else if bytes_eq name (codes "upgrade") then Some topic.Upgrade
+    else if bytes_eq name (codes "explain") then Some topic.Explain
+    else if bytes_eq name (codes "multivariant") then Some topic.Multivariant
+    else if bytes_eq name (codes "apply") then Some topic.Apply
+    else if bytes_eq name (codes "version") then Some topic.Version
+    else None
+
+abbrev pub help_by : Option Topic → Result Call Fault
+help_by (Some about) = Ok (Help about)
+help_by None = Err Usage
+
+-- the help on the command `name`
+abbrev pub help : List ℕ → Result Call Fault
+help name = help_by (topic_named name)
+
+-- whether the only word asks for help on the program
+abbrev pub asks_for_help : List ℕ → Bool
+asks_for_help word = bytes_eq word (codes "help") || (bytes_eq word (codes "--help") || bytes_eq word (codes "-h"))
 
 -- the command `name` without a file
 abbrev pub alone : List ℕ → Result Call Fault
 alone name =
     if bytes_eq name (codes "replay") then Ok Replay
-    else if bytes_eq name (codes "version") then Ok Version
+    else if bytes_eq name (codes "version") || bytes_eq name (codes "--version") then Ok Version
+    else if asks_for_help name then Ok (Help topic.Program)
     else Err Usage
 
 -- the command `name` with one file
-abbrev pub with_file : List ℕ → List ℕ → Result Call Fault
-with_file name file =
+abbrev pub with_only_file : List ℕ → List ℕ → Result Call Fault
+with_only_file name file =
     if bytes_eq name (codes "check") then Ok (Check file)
     else if bytes_eq name (codes "upgrade") then Ok (Upgrade file)
     else if bytes_eq name (codes "explain") then Ok (Summarize file)
     else if bytes_eq name (codes "serve") then Ok (Serve file)
     else Err Usage
 
+-- help, as `COMMAND --help` and as `help COMMAND`, or the command `name` with one file
+abbrev pub with_file : List ℕ → List ℕ → Result Call Fault
+with_file name file =
+    if bytes_eq file (codes "--help") then help name
+    else if bytes_eq name (codes "help") then help file
+    else with_only_file name file
+
+-- entries are counted from 1
 abbrev pub explain_by : List ℕ → Option ℕ → Result Call Fault
-explain_by file (Some entry) = Ok (Explain file entry)
+explain_by file (Some entry) = if entry == 0 then Err Usage else Ok (Explain file entry)
 explain_by file None = Err Usage
 
 -- the command `name` with two files, or with a file and the number of an entry
@@ -120,11 +159,11 @@ options words =
     let ends = flagged (codes "end") early.1 in
     options_by most.0 hasty.0 retry.0 keep.0 ends.0 (secret_after early.0 ends.1)
 
--- the plan and the path of the secret, if the longest segment is no shorter than a part; a lost connection is tried again for 60 seconds by default, and 64 MiB wait for
+-- the plan and the path of the secret, if a part has a duration and the longest segment is no shorter; a lost connection is tried again for 60 seconds by default, and 64 MiB wait for
 -- an origin
 abbrev pub plan_by : ℕ → ℕ → ℕ → Options → Option (Plan × Option (List ℕ))
 plan_by part segment most o =
-    if nat_le part most then
+    if nat_le 1 part && nat_le part most then
     Some (
       record {
         lengths = record { part = part; segment = segment; most = most; ahead = not o.hasty };
@@ -167,8 +206,9 @@ other_command (program ∷ name ∷ file ∷ other ∷ []) = with_two name file 
 other_command (program ∷ name ∷ address ∷ channel ∷ rendition ∷ part ∷ segment ∷ words) = with_plan name address channel rendition (plan part segment words)
 other_command other = Err Usage
 
--- a record, and one or more renditions
+-- help, or a record, and one or more renditions
 abbrev pub multivariant : List (List ℕ) → Result Call Fault
+multivariant (word ∷ []) = if bytes_eq word (codes "--help") then Ok (Help topic.Multivariant) else Err Usage
 multivariant (chunks ∷ source ∷ sources) = Ok (Multivariant chunks (source ∷ sources))
 multivariant other = Err Usage
 
@@ -197,3 +237,4 @@ call_of (command.Serve settings) = Serve settings.now
 call_of (command.Push address channel rendition plan secret) = Push address.now channel.now rendition.now plan (option_map (λ s. s.now) secret)
 call_of (command.Multivariant chunks sources) = Multivariant chunks.now sources.now
 call_of command.Version = Version
+call_of (command.Help about) = Help about

@@ -13,7 +13,7 @@ use Rattle.ll_push.specs.declared.fault.PushFault.TheVariants as push
 use Rattle.ll_replay.specs.declared.outcome.RunFault.{RunFault}
 use Rattle.ll_replay.specs.declared.outcome.RunFault.TheVariants as run
 use Rattle.ll_command.specs.declared.fault.Fault.{Fault}
-use Rattle.ll_command.specs.declared.fault.Fault.TheVariants.{Usage, Read, Endless, Changed, Write, Memory, Replay, BadLine, NoEntry, NoRendition, BadInit, NoSegment, TooLarge, Listen, Clock, Apply, Push}
+use Rattle.ll_command.specs.declared.fault.Fault.TheVariants.{Usage, Read, Endless, Changed, Write, Memory, Replay, BadLine, NoEntry, NoRendition, BadInit, NoSegment, TooLarge, Listen, Clock, Apply, Push, NotMp4}
 
 -- the fault of a record that wasn't read to its end
 abbrev pub read_fault : RecordReadFault → Fault
@@ -70,6 +70,7 @@ status_of Write = 4
 status_of Memory = 4
 status_of (BadLine line) = 3
 status_of NoEntry = 3
+status_of NotMp4 = 3
 status_of (NoRendition number) = 3
 status_of (BadInit number) = 3
 status_of (NoSegment number) = 3

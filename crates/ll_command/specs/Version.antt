@@ -2,4 +2,4 @@
 use Rattle.std.specs.Prelude.{ℕ, List, codes}
 
 abbrev pub version_text : List ℕ
-version_text = codes "llhls 0.1.0\nproved with rattle-kit-13b logic dac8208d650f15bf, or a later kit of the same logic\n"
+version_text = codes "llhls 0.2.0\nproved with rattle-kit-13b logic dac8208d650f15bf, or a later kit of the same logic\n"

@@ -5,11 +5,13 @@ ghost use Rattle.ll_command.specs.Commands.{call_of, command_of};
 
 use crate::fault::Fault;
 use crate::plan::Plan;
+use crate::topic::Topic;
 use ll_attr::Text;
 use ll_format::number;
 use ll_settings::is_name;
 
 /// The command that the program was called with.
+#[derive(Clone, Copy)]
 pub enum Command<'a> {
     /// `replay`: runs the script on standard input.
     Replay,
@@ -42,8 +44,10 @@ pub enum Command<'a> {
         /// The names of renditions and of the files of their Media Initialization Sections, joined by `=`: one or more.
         sources: &'a [Text],
     },
-    /// `version`: writes the version.
+    /// `version`, `--version`: writes the version.
     Version,
+    /// `help`, `-h`, `--help`, `help` with a command's name, or that name with `--help`: writes how the program or the command is used.
+    Help(Topic),
     /// `push`: publishes what an encoder writes to standard input.
     Push {
         /// The addresses at which the origins listen for publishers, one or more with commas between them.
@@ -70,11 +74,12 @@ impl<'a> Command<'a> {
         }
     }
 
-    /// Returns the command that writes the Multivariant Playlist of a record with one or more renditions.
+    /// Returns the command that writes the Multivariant Playlist of a record with one or more renditions, or the help on it.
     fn multivariant(words: &'a [Text]) -> Result<Command<'a>, Fault>
         ensures { MatchResult result (λ c. spec.multivariant words.now ≡ Ok (call_of c)) (λ f. spec.multivariant words.now ≡ Err f) }
     {
         match words {
+            [word] if word.as_str() == "--help" => Ok(Command::Help(Topic::Multivariant)),
             [record, sources @ ..] if !sources.is_empty() => Ok(Command::Multivariant {
                 record,
                 sources,
@@ -153,18 +158,40 @@ impl<'a> Command<'a> {
     fn alone(name: &Text) -> Result<Command<'a>, Fault>
         ensures { MatchResult result (λ c. spec.alone name.now ≡ Ok (call_of c)) (λ f. spec.alone name.now ≡ Err f) }
     {
-        if name.as_str() == "replay" {
-            Ok(Command::Replay)
-        } else if name.as_str() == "version" {
-            Ok(Command::Version)
+        match name.as_str() {
+            "replay" => Ok(Command::Replay),
+            "version" | "--version" => Ok(Command::Version),
+            "help" | "--help" | "-h" => Ok(Command::Help(Topic::Program)),
+            _ => Err(Fault::Usage),
+        }
+    }
+
+    /// Returns the help on the command `name`.
+    fn help(name: &Text) -> Result<Command<'a>, Fault>
+        ensures { MatchResult result (λ c. spec.help name.now ≡ Ok (call_of c)) (λ f. spec.help name.now ≡ Err f) }
+    {
+        match Topic::named(name.as_str()) {
+            Some(topic) => Ok(Command::Help(topic)),
+            None => Err(Fault::Usage),
+        }
+    }
+
+    /// Returns the command `name` with one word more, which is `--help` or a file; or the help on the command of that word.
+    fn with_file(name: &Text, file: &'a Text) -> Result<Command<'a>, Fault>
+        ensures { MatchResult result (λ c. spec.with_file name.now file.now ≡ Ok (call_of c)) (λ f. spec.with_file name.now file.now ≡ Err f) }
+    {
+        if file.as_str() == "--help" {
+            Command::help(name)
+        } else if name.as_str() == "help" {
+            Command::help(file)
         } else {
-            Err(Fault::Usage)
+            Command::with_only_file(name, file)
         }
     }
 
     /// Returns the command `name` with one file.
-    fn with_file(name: &Text, file: &'a Text) -> Result<Command<'a>, Fault>
-        ensures { MatchResult result (λ c. spec.with_file name.now file.now ≡ Ok (call_of c)) (λ f. spec.with_file name.now file.now ≡ Err f) }
+    fn with_only_file(name: &Text, file: &'a Text) -> Result<Command<'a>, Fault>
+        ensures { MatchResult result (λ c. spec.with_only_file name.now file.now ≡ Ok (call_of c)) (λ f. spec.with_only_file name.now file.now ≡ Err f) }
     {
         if name.as_str() == "check" {
             Ok(Command::Check(file))
@@ -193,6 +220,7 @@ impl<'a> Command<'a> {
             return Err(Fault::Usage);
         }
         match number(other.as_str(), u64::MAX) {
+            Some(0) => Err(Fault::Usage),
             Some(entry) => Ok(Command::Explain {
                 record: file,
                 entry,

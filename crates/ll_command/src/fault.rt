@@ -66,6 +66,9 @@ pub enum Fault {
     /// Not all of an encoder's output was published.
     #[error("{0}")]
     Push(PushFault),
+    /// What was to be published begins with no box of an MP4.
+    #[error("NotMp4")]
+    NotMp4,
 }
 
 impl From<AllocError> for Fault {
@@ -86,7 +89,7 @@ impl Fault {
     {
         match self {
             Fault::Usage => 2,
-            Fault::BadLine(_) | Fault::NoEntry => 3,
+            Fault::BadLine(_) | Fault::NoEntry | Fault::NotMp4 => 3,
             Fault::NoRendition(_) | Fault::BadInit(_) | Fault::NoSegment(_) | Fault::TooLarge => 3,
             Fault::Read
             | Fault::Endless

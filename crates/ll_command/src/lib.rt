@@ -7,6 +7,7 @@ mod multivariant;
 mod plan;
 mod script;
 mod secret;
+mod topic;
 mod version;
 mod writing;
 
@@ -16,5 +17,6 @@ pub use multivariant::write_multivariant;
 pub use plan::Plan;
 pub use script::run_script;
 pub use secret::secret_line;
+pub use topic::{Topic, write_help};
 pub use version::write_version;
 pub use writing::{write_applied, write_checked, write_explained, write_summary, write_upgraded};

@@ -28,7 +28,7 @@ pub struct Plan {
 impl Plan {
     /// Parses a plan: `part=` and `segment=` with a number of microseconds, and then the options `most=` with such a number, `ahead=no`,
     /// `retry=` with a number of seconds, `keep=` with a number of bytes, and `end`, in this order. `secret=` with a path may stand before
-    /// `end` or after it: returns the path beside the plan. Returns `None` for other words, or if `most` is shorter than a part.
+    /// `end` or after it: returns the path beside the plan. Returns `None` for other words, or if a part has no duration, or `most` is shorter than a part.
     pub(crate) fn of<'a>(
         part: &Text,
         segment: &Text,
@@ -52,7 +52,7 @@ impl Plan {
             return None;
         }
         let most = most.unwrap_or(usual_most(part, segment));
-        if most < part {
+        if part < 1 || most < part {
             return None;
         }
         let lengths = Lengths {

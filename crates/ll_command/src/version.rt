@@ -9,7 +9,7 @@ use std::io::Write;
 
 /// The version, which the file `VERSION` has too, and the first kit whose logic the proofs are in, which the README names.
 const VERSION: &str =
-    "llhls 0.1.0\nproved with rattle-kit-13b logic dac8208d650f15bf, or a later kit of the same logic\n";
+    "llhls 0.2.0\nproved with rattle-kit-13b logic dac8208d650f15bf, or a later kit of the same logic\n";
 
 /// Writes the version of the program, and the kit that it is proved with.
 pub fn write_version<W: Write>(out: &mut W) -> Result<(), Fault>

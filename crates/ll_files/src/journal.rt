@@ -1,4 +1,5 @@
 //! Files that a server appends to as it runs.
+use crate::new_files::NewFiles;
 use ll_attr::Text;
 use std::fmt::Display;
 use std::fs::{File, OpenOptions};
@@ -19,13 +20,16 @@ pub(crate) struct Journal {
 }
 
 impl Journal {
-    /// Opens the file `path`, or creates it. If that fails, says so on standard error, and nothing will be written.
+    /// Opens the file `path`, or creates it as one of `made`. If that fails, says so on standard error, and nothing will be written.
     pub(crate) fn open<R: Files<File = File> + Eprint>(
         rt: &R,
+        made: &mut NewFiles,
         path: String,
         what: Text,
     ) -> Journal {
-        let file = match OpenOptions::new().append(true).create(true).open(rt, path) {
+        let mut options = OpenOptions::new();
+        options.append(true);
+        let file = match made.open(rt, options, path) {
             Ok(file) => Some(file),
             Err(error) => {
                 let _ = eprintln!(rt; "llhls: {what}: {error}");

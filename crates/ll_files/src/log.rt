@@ -1,5 +1,6 @@
 //! The log: the file that the numbers of channels go to, and the lines of publishers.
 use crate::journal::Journal;
+use crate::new_files::NewFiles;
 use ll_attr::Text;
 use std::alloc::{AllocError, Global};
 use std::fs::File;
@@ -13,11 +14,17 @@ pub struct Log<'a, R> {
 }
 
 impl<'a, R: Files<File = File> + Eprint> Log<'a, R> {
-    /// Opens the file `path`; without a path no lines are kept.
-    pub fn open(rt: &'a R, alloc: Global, path: Option<&Text>) -> Result<Log<'a, R>, AllocError> {
+    /// Opens the file `path`, or creates it as one of `made`; without a path no lines are kept.
+    pub fn open(
+        rt: &'a R,
+        alloc: Global,
+        made: &mut NewFiles,
+        path: Option<&Text>,
+    ) -> Result<Log<'a, R>, AllocError> {
         let file = match path {
             Some(path) => Some(Journal::open(
                 rt,
+                made,
                 String::from_str(alloc, path.as_str())?,
                 Text::from_str(alloc, "log")?,
             )),

@@ -1,5 +1,6 @@
 //! The files of channels' records.
 use crate::journal::Journal;
+use crate::new_files::NewFiles;
 use crate::queue::{Queue, Unwritten};
 use ll_attr::Text;
 use ll_record::{Chunk, Sink};
@@ -21,19 +22,20 @@ pub struct Records<'a, R> {
 }
 
 impl<'a, R: Files<File = File> + Eprint> Records<'a, R> {
-    /// Opens the record of each of `channels`, or creates it: all of them at once, so that none fails later because connections have taken
+    /// Opens the record of each of `channels`, or creates it as one of `made`: all of them at once, so that none fails later because connections have taken
     /// all descriptors. If a file can't be opened, says so on standard error, and its channel has no record. Without a path no records are
     /// kept.
     pub fn open(
         rt: &'a R,
         alloc: Global,
+        made: &mut NewFiles,
         path: Option<&Text>,
         channels: &[Settings],
     ) -> Result<Records<'a, R>, AllocError> {
         let mut kept = Vec::new(alloc);
         if let Some(path) = path {
             for settings in channels {
-                kept.push(record_of(rt, alloc, path, settings.channel())?)?;
+                kept.push(record_of(rt, alloc, made, path, settings.channel())?)?;
             }
         }
         Ok(Records {
@@ -90,14 +92,15 @@ impl<R: Eprint + Wait> Sink for &Records<'_, R> {
     }
 }
 
-/// Opens the record of `channel`, in the file `<path>.<channel>`.
+/// Opens the record of `channel`, in the file `<path>.<channel>`, or creates it as one of `made`.
 fn record_of<R: Files<File = File> + Eprint>(
     rt: &R,
     alloc: Global,
+    made: &mut NewFiles,
     path: &Text,
     channel: &str,
 ) -> Result<Journal, AllocError> {
     let path = format!(in alloc; "{path}.{channel}")?;
     let what = format!(in alloc; "record: {channel}")?;
-    Ok(Journal::open(rt, path, Text::from_string(what)))
+    Ok(Journal::open(rt, made, path, Text::from_string(what)))
 }

@@ -1,4 +1,5 @@
 //! One of the two files of the bytes of a rendition's items.
+use crate::new_files::NewFiles;
 use std::fs::{File, OpenOptions};
 use std::io::Error;
 use std::os::unix::fs::FileExt;
@@ -14,13 +15,15 @@ pub(crate) struct SideFile {
 }
 
 impl SideFile {
-    /// Opens the file `path`, or creates it.
-    pub(crate) fn open<R: Files<File = File>>(rt: &R, path: String) -> Result<SideFile, Error> {
-        let file = OpenOptions::new()
-            .read(true)
-            .write(true)
-            .create(true)
-            .open(rt, path)?;
+    /// Opens the file `path`, or creates it as one of `made`.
+    pub(crate) fn open<R: Files<File = File>>(
+        rt: &R,
+        made: &mut NewFiles,
+        path: String,
+    ) -> Result<SideFile, Error> {
+        let mut options = OpenOptions::new();
+        options.read(true).write(true);
+        let file = made.open(rt, options, path)?;
         let length = file.metadata()?.len();
         Ok(SideFile { file, length })
     }

@@ -1,6 +1,7 @@
 //! The files of channels' spools.
 ghost use Rattle.std.specs.Prelude.{None};
 
+use crate::new_files::NewFiles;
 use crate::side_file::SideFile;
 use ll_attr::Text;
 use ll_layout::{Extent, Side};
@@ -8,8 +9,8 @@ use ll_settings::Settings;
 use ll_spool::{Disk, Lost};
 use std::alloc::{AllocError, Global};
 use std::fmt::Display;
-use std::fs::{self, File, OpenOptions, TryLockError};
-use std::io::{Error, ErrorKind, Read, Write};
+use std::fs::{File, OpenOptions, TryLockError};
+use std::io::{Error, Read, Write};
 use std::rt::Files;
 
 /// The two files of the bytes of a rendition's items.
@@ -37,19 +38,20 @@ pub struct SpoolFiles<'a, R> {
 pub struct Unusable;
 
 impl<'a, R: Files<File = File> + Eprint> SpoolFiles<'a, R> {
-    /// Opens the files of the spool of the channel of `settings` in `directory`, or creates them. If that fails, or another server has
-    /// them, says so on standard error.
+    /// Opens the files of the spool of the channel of `settings` in `directory`, or creates them as some of `made`. If that fails, or another
+    /// server has them, says so on standard error.
     pub fn open(
         rt: &'a R,
         alloc: Global,
+        made: &mut NewFiles,
         directory: &Text,
         settings: &Settings,
     ) -> Result<Result<SpoolFiles<'a, R>, Unusable>, AllocError> {
         let what = Text::from_str(alloc, settings.channel())?;
-        let Ok(items) = open_locked(rt, alloc, directory, &what)? else {
+        let Ok(items) = open_locked(rt, alloc, made, directory, &what)? else {
             return Ok(Err(Unusable));
         };
-        match open_all(rt, alloc, directory, settings)? {
+        match open_all(rt, alloc, made, directory, settings)? {
             Ok(sides) => Ok(Ok(SpoolFiles {
                 rt,
                 what,
@@ -65,12 +67,13 @@ impl<'a, R: Files<File = File> + Eprint> SpoolFiles<'a, R> {
 fn open_locked<R: Files<File = File> + Eprint>(
     rt: &R,
     alloc: Global,
+    made: &mut NewFiles,
     directory: &Text,
     what: &Text,
 ) -> Result<Result<File, Unusable>, AllocError> {
     let folder = format!(in alloc; "{directory}/{what}")?;
     let path = format!(in alloc; "{folder}/items")?;
-    match open_items(rt, folder, path) {
+    match open_items(rt, made, folder, path) {
         Ok(items) => Ok(lock(rt, what, items)),
         Err(error) => Ok(Err(say(rt, what, &error))),
     }
@@ -85,30 +88,37 @@ fn lock<R: Eprint>(rt: &R, what: &Text, items: File) -> Result<File, Unusable> {
     }
 }
 
-/// Creates `folder`, if it isn't there, and opens the file `items` in it.
-fn open_items<R: Files<File = File>>(rt: &R, folder: String, items: String) -> Result<File, Error> {
-    match fs::create_dir(rt, folder) {
-        Ok(()) => {}
-        Err(error) if error.kind() == ErrorKind::AlreadyExists => {}
-        Err(error) => return Err(error),
-    }
-    OpenOptions::new()
-        .read(true)
-        .append(true)
-        .create(true)
-        .open(rt, items)
+/// Opens the file `items` in `folder`. Creates those of them that aren't there.
+fn open_items<R: Files<File = File>>(
+    rt: &R,
+    made: &mut NewFiles,
+    folder: String,
+    items: String,
+) -> Result<File, Error> {
+    made.make_folder(rt, folder)?;
+    let mut options = OpenOptions::new();
+    options.read(true).append(true);
+    made.open(rt, options, items)
 }
 
 /// Opens the files of each rendition of the channel of `settings`, whose folder is in `directory`.
 fn open_all<R: Files<File = File>>(
     rt: &R,
     alloc: Global,
+    made: &mut NewFiles,
     directory: &Text,
     settings: &Settings,
 ) -> Result<Result<Vec<Sides>, Error>, AllocError> {
     let mut sides = Vec::new(alloc);
     for name in settings.renditions() {
-        match open_both(rt, alloc, directory, settings.channel(), name.as_str())? {
+        match open_both(
+            rt,
+            alloc,
+            made,
+            directory,
+            settings.channel(),
+            name.as_str(),
+        )? {
             Ok(both) => sides.push(both)?,
             Err(error) => return Ok(Err(error)),
         }
@@ -120,20 +130,26 @@ fn open_all<R: Files<File = File>>(
 fn open_both<R: Files<File = File>>(
     rt: &R,
     alloc: Global,
+    made: &mut NewFiles,
     directory: &Text,
     channel: &str,
     name: &str,
 ) -> Result<Result<Sides, Error>, AllocError> {
     let a = format!(in alloc; "{directory}/{channel}/{name}.a")?;
     let b = format!(in alloc; "{directory}/{channel}/{name}.b")?;
-    Ok(open_sides(rt, a, b))
+    Ok(open_sides(rt, made, a, b))
 }
 
 /// Opens the two files of a rendition.
-fn open_sides<R: Files<File = File>>(rt: &R, a: String, b: String) -> Result<Sides, Error> {
+fn open_sides<R: Files<File = File>>(
+    rt: &R,
+    made: &mut NewFiles,
+    a: String,
+    b: String,
+) -> Result<Sides, Error> {
     Ok(Sides {
-        a: SideFile::open(rt, a)?,
-        b: SideFile::open(rt, b)?,
+        a: SideFile::open(rt, made, a)?,
+        b: SideFile::open(rt, made, b)?,
     })
 }
 

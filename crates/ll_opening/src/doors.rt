@@ -1,15 +1,19 @@
 //! Where those connect whom a server serves, and who of them may publish.
 use crate::status::{open_status, say_status};
-use crate::stop::Stop;
+use crate::stop::{Stop, listening};
 use ll_config::Door;
-use ll_device::{Failed, Role};
+use ll_device::Role;
 use ll_door::Digest;
-use ll_socket::Listener;
+use ll_socket::{BindAddress, Listener};
 use ll_status::StatusPort;
 use std::alloc::Global;
+use std::io;
 use std::net::{Net, SocketAddr, TcpListener, TcpStream};
 use std::rt::Files;
 use std::time::Duration;
+
+/// Whom the players' port is for, in messages.
+const PLAYERS: &str = "players";
 
 /// How long a player may be idle before its connection is closed, in seconds.
 pub const IDLE: u64 = 30;
@@ -37,7 +41,7 @@ pub struct Listeners<'a, R> {
 
 impl<R: Net<Listener = TcpListener, Stream = TcpStream> + Eprint> Listeners<'_, R> {
     /// Says on standard error where the ports are.
-    fn say(&self, rt: &R) -> Result<(), Failed> {
+    fn say(&self, rt: &R) -> io::Result<()> {
         let (players, publishers) = (self.players.place()?, self.publishers.place()?);
         let _ = eprintln!(rt; "llhls: players on {players}");
         let _ = eprintln!(rt; "llhls: publishers on {publishers}");
@@ -47,35 +51,31 @@ impl<R: Net<Listener = TcpListener, Stream = TcpStream> + Eprint> Listeners<'_, 
 }
 
 impl Doors {
-    /// Listens at all of these, and says on standard error where.
+    /// Listens at all of these, and says on standard error where. Publishers are the last, since their socket file would be left if another
+    /// port failed after it.
     pub fn open<'a, R: Net<Listener = TcpListener, Stream = TcpStream> + Files + Eprint>(
         &self,
         rt: &'a R,
         alloc: Global,
     ) -> Result<Listeners<'a, R>, Stop> {
-        match self.listen(rt, alloc) {
-            Ok(listeners) => Ok(listeners),
-            Err(Failed) => Err(Stop::Listen),
-        }
+        let listeners = Listeners {
+            players: self.listen_to_players(rt, alloc)?,
+            status: open_status(rt, alloc, self.status)?,
+            publishers: self.listen_to_publishers(rt, alloc)?,
+        };
+        listening(alloc, listeners.say(rt), self.players, PLAYERS)?;
+        Ok(listeners)
     }
 
-    /// Does what [`Doors::open`] does.
-    fn listen<'a, R: Net<Listener = TcpListener, Stream = TcpStream> + Files + Eprint>(
+    /// Listens for players.
+    fn listen_to_players<'a, R: Net<Listener = TcpListener, Stream = TcpStream>>(
         &self,
         rt: &'a R,
         alloc: Global,
-    ) -> Result<Listeners<'a, R>, Failed> {
+    ) -> Result<Listener<'a, R>, Stop> {
         let patience = Some(Duration::from_secs(IDLE));
-        let players = Listener::open(rt, self.players, Role::Player, patience)?;
-        let publishers = self.listen_to_publishers(rt, alloc)?;
-        let status = open_status(rt, alloc, self.status)?;
-        let listeners = Listeners {
-            players,
-            publishers,
-            status,
-        };
-        listeners.say(rt)?;
-        Ok(listeners)
+        let done = Listener::open(rt, self.players, Role::Player, patience);
+        listening(alloc, done, self.players, PLAYERS)
     }
 
     /// Listens for publishers.
@@ -83,11 +83,18 @@ impl Doors {
         &self,
         rt: &'a R,
         alloc: Global,
-    ) -> Result<Listener<'a, R>, Failed> {
+    ) -> Result<Listener<'a, R>, Stop> {
         let patience = self.idle.map(Duration::from_secs);
-        match &self.publishers {
-            Door::Ip(address) => Listener::open(rt, *address, Role::Publisher, patience),
-            Door::Unix(path) => Listener::open_unix(rt, alloc, path.as_str(), patience),
-        }
+        let (done, place) = match &self.publishers {
+            Door::Ip(address) => (
+                Listener::open(rt, *address, Role::Publisher, patience),
+                BindAddress::Ip(*address),
+            ),
+            Door::Unix(path) => (
+                Listener::open_unix(rt, alloc, path.as_str(), patience),
+                BindAddress::Unix(path.as_str()),
+            ),
+        };
+        listening(alloc, done, place, "publishers")
     }
 }

@@ -108,11 +108,20 @@ impl<'a, L: Ledgers, K: Sink + Drop, R: Eprint + Wait + Clock> Restored<'a, L, K
                 Ok(spool)
             }
             Err(RestoreFault::Line(line)) => {
-                let _ = eprintln!(rt; "llhls: spool: {channel} {line}");
+                let _ = eprintln!(rt; "llhls: spool: {channel} {line}\n  {}", advice_on(line));
                 Err(Stop::Spool(3))
             }
             Err(RestoreFault::Memory) => Err(Stop::Memory),
         }
+    }
+}
+
+/// Returns what helps if the line `line` of a spool can't stand.
+fn advice_on(line: u64) -> &'static str {
+    if line == 1 {
+        "The first line of its file `items` isn't the channel's line of the settings, which have changed; the spool is as it was. OPERATING.md, \"Keeping channels over a restart\"."
+    } else {
+        "This line of its file `items`, or what it names of the other files, is damaged; the spool is as it was. OPERATING.md, \"Keeping channels over a restart\"."
     }
 }
 

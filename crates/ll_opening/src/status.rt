@@ -1,6 +1,6 @@
 //! The status port of a server, if its settings have one.
+use crate::stop::{Stop, listening};
 use ll_counts::Numbers;
-use ll_device::Failed;
 use ll_status::StatusPort;
 use std::alloc::Global;
 use std::net::{Net, SocketAddr, TcpListener, TcpStream};
@@ -12,14 +12,12 @@ pub(crate) fn open_status<'a, R: Net<Listener = TcpListener, Stream = TcpStream>
     rt: &'a R,
     alloc: Global,
     address: Option<SocketAddr>,
-) -> Result<Option<StatusPort<'a, R>>, Failed> {
+) -> Result<Option<StatusPort<'a, R>>, Stop> {
     let Some(address) = address else {
         return Ok(None);
     };
-    match StatusPort::open(rt, alloc, address) {
-        Ok(port) => Ok(Some(port)),
-        Err(_) => Err(Failed),
-    }
+    let done = StatusPort::open(rt, alloc, address);
+    Ok(Some(listening(alloc, done, address, "the status port")?))
 }
 
 /// Says on standard error where the status port is, if there is one.

@@ -3,6 +3,8 @@
 
 mod calendar;
 mod commands;
+mod failing;
+mod input;
 mod multivariant;
 mod push;
 mod words;

@@ -4,17 +4,22 @@ ghost use Rattle.std.specs.Vec.Iter.{into_iter_items};
 
 use ll_attr::Text;
 use ll_command::{Fault, fault_of};
+use ll_reasons::Failure;
 use std::alloc::{AllocError, Global};
 use std::env;
 
 /// Returns the program's words. A word that isn't UTF-8 is wrong usage.
-pub(crate) fn words(rt: &HostRuntime) -> Result<Vec<Text>, Fault> {
+pub(crate) fn words(rt: &HostRuntime) -> Result<Vec<Text>, Failure> {
     match env::args(rt) {
         Ok(args) => match texts(rt.alloc(), args) {
             Ok(words) => Ok(words),
-            Err(AllocError) => Err(Fault::Memory),
+            Err(AllocError) => Err(Failure::from(Fault::Memory)),
         },
-        Err(error) => Err(fault_of(error.kind(), Fault::Usage)),
+        Err(error) => Err(Failure::new(
+            rt.alloc(),
+            fault_of(error.kind(), Fault::Usage),
+            "a word isn't UTF-8",
+        )),
     }
 }
 

@@ -5,7 +5,7 @@ ghost use Rattle.std.specs.Prelude.{◌≡◌, ◌≤◌, length};
 use crate::watch::Watch;
 use ll_config::{Config, Workers};
 use ll_counts::Numbers;
-use ll_files::{Log, Records, SpoolFiles, Unusable};
+use ll_files::{Log, NewFiles, Records, SpoolFiles, Unusable};
 use ll_hub::{Blanks, Hub, HubFault, Ledgers, Pass};
 use ll_notes::Notes;
 use ll_opening::{Doors, IDLE, Listeners, Spools, Stop, restore_all, serve_status};
@@ -19,6 +19,7 @@ use std::marker::Brand;
 use std::net::{Net, TcpListener, TcpStream};
 use std::rt::Files;
 use std::sync::Wait;
+use std::sync::atomic::{AtomicBool, Ordering};
 use std::thread::Threads;
 use std::time::Instant;
 use std::{thread, time};
@@ -35,6 +36,8 @@ pub(crate) struct Server<'a, R> {
     /// What is noted for the log, if it is kept.
     pub(crate) notes: Option<Notes<'a, R>>,
     workers: Workers,
+    /// Whether its ports are open.
+    open: &'a AtomicBool,
 }
 
 /// What a server serves connections with: `'a` is how long it runs, `'s` how long it serves.
@@ -50,7 +53,7 @@ pub(crate) type Serving<'s, 'a, L, R> = Service<
 >;
 
 /// Serves players and publishers of the channels of the settings file `settings`, until it is stopped. If their items are kept, first
-/// publishes those that were.
+/// publishes those that were. If its ports can't be opened, no file is left that wasn't there before.
 pub fn serve<
     R: Net<Listener = TcpListener, Stream = TcpStream>
         + Files<File = File>
@@ -61,8 +64,32 @@ pub fn serve<
         + Sync,
 >(rt: &R, alloc: Global, settings: &[u8]) -> Result<(), Stop> {
     let config = Config::read(alloc, settings)?;
-    let files = open_spools(rt, alloc, &config)?;
-    let server = open_server(rt, alloc, &config)?;
+    let (mut made, open) = (NewFiles::new(alloc), AtomicBool::new(false));
+    let done = serve_from(rt, alloc, config, &mut made, &open);
+    if !open.load(Ordering::SeqCst) {
+        made.remove(rt);
+    }
+    done
+}
+
+/// Serves the channels of `config`. Notes in `made` which files it makes, and in `open` that its ports are open.
+fn serve_from<
+    R: Net<Listener = TcpListener, Stream = TcpStream>
+        + Files<File = File>
+        + Eprint
+        + time::Clock
+        + Threads
+        + Wait
+        + Sync,
+>(
+    rt: &R,
+    alloc: Global,
+    config: Config,
+    made: &mut NewFiles,
+    open: &AtomicBool,
+) -> Result<(), Stop> {
+    let files = open_spools(rt, alloc, &config, made)?;
+    let server = open_server(rt, alloc, &config, made, open)?;
     let ((), done) = thread::join(
         rt,
         || server.records.write_on(),
@@ -99,13 +126,14 @@ fn open_spools<'a, R: Files<File = File> + Eprint>(
     rt: &'a R,
     alloc: Global,
     config: &Config,
+    made: &mut NewFiles,
 ) -> Result<Vec<SpoolFiles<'a, R>>, Stop> {
     let mut files = Vec::new(alloc);
     let Some(directory) = &config.files.spool else {
         return Ok(files);
     };
     for settings in config.hosted.channels() {
-        match SpoolFiles::open(rt, alloc, directory, settings) {
+        match SpoolFiles::open(rt, alloc, made, directory, settings) {
             Ok(Ok(opened)) => {
                 if files.push(opened).is_err() {
                     return Err(Stop::Memory);
@@ -123,20 +151,24 @@ fn open_server<'a, R: Files<File = File> + Eprint + time::Clock>(
     rt: &'a R,
     alloc: Global,
     config: &Config,
+    made: &mut NewFiles,
+    open: &'a AtomicBool,
 ) -> Result<Server<'a, R>, Stop> {
     let Ok(start) = Instant::now(rt) else {
         return Err(Stop::Clock);
     };
-    Ok(server_from(rt, alloc, config, start)?)
+    Ok(server_from(rt, alloc, config, made, (start, open))?)
 }
 
-/// Returns a server with the settings `config`, whose files it opens, and whose time starts at `start`.
+/// Returns a server with the settings `config`, whose files it opens. `since` is when its time starts, and whether its ports are open.
 fn server_from<'a, R: Files<File = File> + Eprint>(
     rt: &'a R,
     alloc: Global,
     config: &Config,
-    start: Instant,
+    made: &mut NewFiles,
+    since: (Instant, &'a AtomicBool),
 ) -> Result<Server<'a, R>, AllocError> {
+    let (start, open) = since;
     let (files, channels) = (&config.files, config.hosted.channels());
     let notes = match files.log {
         Some(_) => Some(Notes::new(rt, alloc, channels)?),
@@ -146,11 +178,12 @@ fn server_from<'a, R: Files<File = File> + Eprint>(
         rt,
         alloc,
         watch: Watch { rt, start },
-        records: Records::open(rt, alloc, files.records.as_ref(), channels)?,
-        log: Log::open(rt, alloc, files.log.as_ref())?,
+        records: Records::open(rt, alloc, made, files.records.as_ref(), channels)?,
+        log: Log::open(rt, alloc, made, files.log.as_ref())?,
         numbers: Numbers::new(rt, alloc, start, channels)?,
         notes,
         workers: config.workers,
+        open,
     })
 }
 
@@ -177,6 +210,7 @@ fn open<
     let (rt, numbers) = (server.rt, &server.numbers);
     let (spools, pass) = restore_all(rt, server.alloc, hub, &server.records, numbers, files)?;
     let listeners = doors.open(rt, server.alloc)?;
+    server.open.store(true, Ordering::SeqCst);
     Ok(Opened {
         spools,
         pass,

@@ -17,6 +17,9 @@ const LIMIT: u64 = 30;
 /// How long to wait before each further attempt, in milliseconds.
 const PAUSE: u64 = 500;
 
+/// Why a connection fails that ends before its greeting is answered.
+const UNGREETED: &str = "the connection was made, but its first line was not answered";
+
 /// The most bytes of the line that answers a greeting.
 const ANSWER: usize = 4_096;
 
@@ -31,6 +34,8 @@ pub struct Connector<'a, R> {
     retry: Duration,
     /// Whether the first connection was made.
     made: bool,
+    /// Why the last attempt to connect failed, if one has.
+    failure: Option<Error>,
 }
 
 impl<'a, R: Net<Listener = TcpListener, Stream = TcpStream>> Connector<'a, R> {
@@ -48,37 +53,58 @@ impl<'a, R: Net<Listener = TcpListener, Stream = TcpStream>> Connector<'a, R> {
             greeting,
             retry,
             made: false,
+            failure: None,
+        }
+    }
+
+    /// Returns why the last attempt to connect failed, if one has.
+    pub fn failure(&self) -> Option<Error> {
+        self.failure
+    }
+
+    /// Tries once to connect, and keeps why that fails.
+    fn attempt(&mut self) -> Option<Socket> {
+        match self.connect() {
+            Ok(socket) => Some(socket),
+            Err(error) => {
+                self.failure = Some(error);
+                None
+            }
         }
     }
 
     /// Tries once to connect, for 30 seconds at most, and to greet. A read or a write of the connection fails if it waits for longer than 30
     /// seconds.
-    fn connect(&self) -> Option<Socket> {
+    fn connect(&self) -> io::Result<Socket> {
         let limit = Duration::from_secs(LIMIT);
         let stream = match self.address {
-            Address::Ip(address) => TcpStream::connect_timeout(self.rt, address, limit).ok()?,
-            Address::Host(name) => self.connect_to_host(name.as_str(), limit).ok()?,
-            Address::Unix(path) => TcpStream::from(unix::connect(self.rt, path.as_str()).ok()?),
+            Address::Ip(address) => TcpStream::connect_timeout(self.rt, address, limit)?,
+            Address::Host(name) => self.connect_to_host(name.as_str(), limit)?,
+            Address::Unix(path) => TcpStream::from(unix::connect(self.rt, path.as_str())?),
         };
         // A socket file's connection has no such setting, and no need of it.
         let _ = stream.set_nodelay(true);
         let mut socket = Socket::new(stream, Some(limit));
-        if let Some(line) = self.greeting {
-            greet(&mut socket, line).ok()?;
+        if let Some(line) = self.greeting
+            && greet(&mut socket, line).is_err()
+        {
+            return Err(Error::new(ErrorKind::ConnectionAborted, UNGREETED));
         }
-        Some(socket)
+        Ok(socket)
     }
 
-    /// Looks the host's name of `name` up, and tries each of its addresses in turn, for the same share of `limit`.
+    /// Looks the host's name of `name` up, and tries each of its addresses in turn, for the same share of `limit`. Fails as the last of them.
     fn connect_to_host(&self, name: &str, limit: Duration) -> io::Result<TcpStream> {
         let addresses = name.to_socket_addrs(self.rt)?;
         let share = limit / addresses.len().max(1) as u32;
+        let mut failure = Error::new(ErrorKind::NotFound, "the host's name has no address");
         for address in addresses {
-            if let Ok(stream) = TcpStream::connect_timeout(self.rt, &address, share) {
-                return Ok(stream);
+            match TcpStream::connect_timeout(self.rt, &address, share) {
+                Ok(stream) => return Ok(stream),
+                Err(error) => failure = error,
             }
         }
-        Err(Error::from(ErrorKind::NotFound))
+        Err(failure)
     }
 }
 
@@ -108,14 +134,14 @@ fn skip_line<L: Link>(link: &mut L) -> Result<(), Failed>
 
 impl<R: Net<Listener = TcpListener, Stream = TcpStream> + Clock> Connector<'_, R> {
     /// Makes a further connection: pauses and tries, again and again, and returns `None` once `retry` has gone by.
-    fn connect_again(&self) -> Option<Socket> {
+    fn connect_again(&mut self) -> Option<Socket> {
         let start = Instant::now(self.rt).ok()?;
         for _ in 0..u64::MAX {
             if start.elapsed(self.rt).ok()? >= self.retry {
                 return None;
             }
             thread::sleep(self.rt, Duration::from_millis(PAUSE));
-            if let Some(socket) = self.connect() {
+            if let Some(socket) = self.attempt() {
                 return Some(socket);
             }
         }
@@ -131,7 +157,7 @@ impl<R: Net<Listener = TcpListener, Stream = TcpStream> + Clock> Source for Conn
         if self.made {
             return self.connect_again();
         }
-        let socket = self.connect()?;
+        let socket = self.attempt()?;
         self.made = true;
         Some(socket)
     }

@@ -3,8 +3,9 @@ use crate::socket::Socket;
 use crate::unix;
 use libc::net::{SO_KEEPALIVE, SOL_SOCKET};
 use ll_attr::Text;
-use ll_device::{Failed, Role, Source};
+use ll_device::{Role, Source};
 use std::alloc::Global;
+use std::io::{Error, ErrorKind};
 use std::net::{Net, SocketAddr, TcpListener, TcpStream};
 use std::os::fd::{AsRawFd, OwnedFd};
 use std::os::unix::net::UnixListener;
@@ -71,12 +72,10 @@ impl<'a, R: Net<Listener = TcpListener, Stream = TcpStream>> Listener<'a, R> {
         address: SocketAddr,
         role: Role,
         patience: Option<Duration>,
-    ) -> Result<Listener<'a, R>, Failed> {
-        let Ok(listener) = TcpListener::bind(rt, address) else {
-            return Err(Failed);
-        };
+    ) -> io::Result<Listener<'a, R>> {
+        let listener = TcpListener::bind(rt, address)?;
         if libc::net::listen(listener.as_raw_fd(), BACKLOG) != 0 {
-            return Err(Failed);
+            return Err(unix::last_error());
         }
         Ok(Listener {
             rt,
@@ -94,23 +93,21 @@ impl<'a, R: Net<Listener = TcpListener, Stream = TcpStream>> Listener<'a, R> {
         alloc: Global,
         path: &str,
         patience: Option<Duration>,
-    ) -> Result<Listener<'a, R>, Failed>
+    ) -> io::Result<Listener<'a, R>>
     where
         R: Files,
     {
         let Ok(text) = Text::from_str(alloc, path) else {
-            return Err(Failed);
+            return Err(Error::from(ErrorKind::OutOfMemory));
         };
-        match unix::listen(rt, alloc, path, BACKLOG) {
-            Ok(listener) => Ok(Listener {
-                rt,
-                role: Role::Publisher,
-                port: Port::Unix(listener, text),
-                patience,
-                told: false,
-            }),
-            Err(_) => Err(Failed),
-        }
+        let listener = unix::listen(rt, alloc, path, BACKLOG)?;
+        Ok(Listener {
+            rt,
+            role: Role::Publisher,
+            port: Port::Unix(listener, text),
+            patience,
+            told: false,
+        })
     }
 
     /// Returns the role of those who connect.
@@ -119,13 +116,10 @@ impl<'a, R: Net<Listener = TcpListener, Stream = TcpStream>> Listener<'a, R> {
     }
 
     /// Returns where it listens. Fails if the system doesn't return that.
-    pub fn place(&self) -> Result<BindAddress<'_>, Failed> {
+    pub fn place(&self) -> io::Result<BindAddress<'_>> {
         match &self.port {
             Port::Unix(_, path) => Ok(BindAddress::Unix(path.as_str())),
-            Port::Tcp(listener) => match listener.local_addr() {
-                Ok(address) => Ok(BindAddress::Ip(address)),
-                Err(_) => Err(Failed),
-            },
+            Port::Tcp(listener) => Ok(BindAddress::Ip(listener.local_addr()?)),
         }
     }
 

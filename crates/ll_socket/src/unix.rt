@@ -60,12 +60,15 @@ fn bind<R: Net + Files>(rt: &R, path: &str) -> io::Result<OwnedFd> {
 fn is_left<R: Net + Files>(rt: &R, path: &str) -> io::Result<bool> {
     match fs::symlink_metadata(rt, path) {
         Ok(found) if found.file_type().is_socket() => {}
-        Ok(_) => return Err(Error::from(ErrorKind::AlreadyExists)),
+        Ok(_) => return Err(Error::new(
+            ErrorKind::AlreadyExists,
+            "a file that is no socket is there",
+        )),
         Err(error) if error.kind() == ErrorKind::NotFound => return Ok(false),
         Err(error) => return Err(error),
     }
     match connect(rt, path) {
-        Ok(_) => Err(Error::from(ErrorKind::AddrInUse)),
+        Ok(_) => Err(Error::new(ErrorKind::AddrInUse, "another program listens there")),
         Err(error) if error.kind() == ErrorKind::ConnectionRefused => Ok(true),
         Err(error) => Err(error),
     }
@@ -75,7 +78,10 @@ fn is_left<R: Net + Files>(rt: &R, path: &str) -> io::Result<bool> {
 pub(crate) fn connect<R: Net>(rt: &R, path: &str) -> io::Result<OwnedFd> {
     let mut address = [0; 128];
     let Some(length) = put_address(path, &mut address) else {
-        return Err(Error::from(ErrorKind::InvalidInput));
+        return Err(Error::new(
+            ErrorKind::InvalidInput,
+            "a socket file's path has 1 to 107 bytes",
+        ));
     };
     // std's connect would wait for as long as nobody accepts.
     let stream = UnixStream::from(rt.unix_socket()?);
@@ -101,6 +107,6 @@ fn put_address(path: &str, raw: &mut [u8; 128]) -> Option<u32>
 }
 
 /// Returns the error of the system call that failed last.
-fn last_error() -> Error {
+pub(crate) fn last_error() -> Error {
     Error::from_raw_os_error(os::errno())
 }
