@@ -16,7 +16,8 @@ help:
 	@echo 'make bench            measures speed and memory'
 	@echo 'make demo             shows a picture in a browser, in a minute or two and before anything is proved: ffmpeg, push, serve and a page'
 
-run: kit
+# (what builds the quick program says if there is no kit)
+run:
 	@$(HERE)tests/run.sh
 
 build: kit
@@ -36,11 +37,11 @@ test: kit
 edits: kit
 	@$(HERE)tests/edits.sh $(CRATES)
 
-try: kit
-	@$(HERE)tests/try_rows.sh
+try:
+	@$(HERE)tests/program/try_rows.sh
 
 refused-memory: kit
-	@$(HERE)tests/refused_memory.sh
+	@$(HERE)tests/program/refused_memory.sh
 
 bench: kit
 	@$(HERE)bench/replay.sh
@@ -59,7 +60,7 @@ bench: kit
 	@$(HERE)bench/players.py
 	@$(HERE)bench/soak.sh
 
-demo: kit
+demo:
 	@exec $(HERE)examples/demo.sh
 
 .PHONY: kit
