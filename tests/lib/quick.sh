@@ -141,9 +141,9 @@ main() {
             tail -n 5 "$room/said" >&2
             give_up 'the program is not built'
         fi
-        rm -f "$program" "$kept/of"
-        if ! { install -m 755 "$room/llhls" "$kept/new" && printf '%s\n' "$sum" "$kit" >"$kept/of" && mv "$kept/new" "$program"; }; then
-            rm -f "$kept/new" "$kept/of"
+        # (what is kept is there whole, or isn't taken)
+        if ! { rm -f "$kept/of" && install -m 755 "$room/llhls" "$kept/new" && mv "$kept/new" "$program" && printf '%s\n' "$sum" "$kit" >"$kept/of.new" && mv "$kept/of.new" "$kept/of"; }; then
+            rm -f "$kept"/{new,of,of.new}
             give_up "$program cannot be written"
         fi
         say "built in $((SECONDS - began)) s"
