@@ -128,6 +128,7 @@ ending_of() {
 # compile FILE [FLAG..]: compiles NAME.c to room/NAME.
 compile() {
     local name=${1##*/}
+    command -v "${CC:-cc}" >/dev/null || give_up "${CC:-cc}, the C compiler, is not installed"
     "${CC:-cc}" -O2 -Wall -Wextra -Werror "${@:2}" -o "$room/${name%.c}" "$1" || exit 2
 }
 

@@ -17,10 +17,10 @@ from rooms import ROOT, Server, check, ended, missing, summed, try_named
 from serve_room import PART, ServeRoom
 
 VERSION = (ROOT / 'VERSION').read_text().strip()
-NAME = f'llhls_{VERSION}_amd64.deb'
 UNIT = 'lib/systemd/system/llhls@.service'
 DOC = 'usr/share/doc/llhls'
-STAND_IN = '#include <stdio.h>\nint main(void) { return puts("a stand-in") < 0; }\n'
+STAND_IN = '#include <stdio.h>\nint main(void) { return puts("%s") < 0; }\n'
+UNPROVED = '~unproved'
 # The files outside of the pages and examples.
 FILES = {'usr/bin/llhls': '-rwxr-xr-x', UNIT: '-rw-r--r--', 'usr/share/man/man1/llhls.1.gz': '-rw-r--r--', f'{DOC}/changelog.gz': '-rw-r--r--', f'{DOC}/copyright': '-rw-r--r--',
          'usr/share/lintian/overrides/llhls': '-rw-r--r--', f'{DOC}/README.md': '-rw-r--r--', 'etc/llhls/': 'drwxr-xr-x'}
@@ -35,6 +35,7 @@ class PackageRoom(ServeRoom):
     """The folder of a test, and the package."""
 
     package = None  # its path
+    version = VERSION   # what it has to say
 
     def out(self, *words, env=None):
         """Returns what a command writes to its standard output. Tests that it ends with status 0."""
@@ -51,6 +52,17 @@ class PackageRoom(ServeRoom):
 def build(program, folder):
     """Builds the package in `folder`, and returns its path."""
     return pathlib.Path(subprocess.run([ROOT / 'packaging/deb.sh', folder], env={**os.environ, 'PROGRAM': str(program)}, check=True, stdout=subprocess.PIPE, text=True).stdout.strip())
+
+
+def stand_in(path, said):
+    """Makes a program that prints a line, and returns its path."""
+    subprocess.run([os.environ.get('CC') or 'cc', '-x', 'c', '-', '-pie', '-o', path], input=(STAND_IN % said).encode(), check=True)
+    return path
+
+
+def is_unproved_by_itself(program):
+    """Returns whether a program says that it isn't proved."""
+    return ', not proved' in subprocess.run([program, 'version'], stdin=subprocess.DEVNULL, stdout=subprocess.PIPE, text=True).stdout
 
 
 # ---- the file
@@ -82,7 +94,7 @@ def has_the_bytes(room):
     tree = room.unpacked()
     check((tree / 'usr/bin/llhls').read_bytes() == pathlib.Path(room.program).read_bytes(), 'the program has other bytes')
     check(room.out('zcat', tree / 'usr/share/man/man1/llhls.1.gz') == (ROOT / 'docs/llhls.1').read_text(), 'the manual page is another')
-    check(f'llhls ({VERSION}) ' in room.out('zcat', tree / DOC / 'changelog.gz'), 'the change log has another version')
+    check(f'llhls ({room.version}) ' in room.out('zcat', tree / DOC / 'changelog.gz'), 'the change log has another version')
     room.out('dpkg-deb', '-e', room.package, room.folder / 'control')
     room.out('env', '-C', tree, 'md5sum', '--quiet', '-c', room.folder / 'control/md5sums')
     for script in ('postinst', 'prerm', 'postrm'):
@@ -92,9 +104,10 @@ def has_the_bytes(room):
 def has_its_fields(room):
     """The package says its version, and which C library the program needs."""
     fields = dict(line.split(': ', 1) for line in room.out('dpkg-deb', '-f', room.package).splitlines() if re.match(r'\S+: ', line))
-    wanted = {'Package': 'llhls', 'Version': VERSION, 'Architecture': 'amd64'}
-    check(wanted.items() <= fields.items() and room.package.name == NAME, f'the fields are {fields}')
-    check(re.fullmatch(r'libc6 \(>= 2\.[0-9]+(\.[0-9]+)?\)', fields['Depends']), f'it depends on {fields["Depends"]}')
+    wanted = {'Package': 'llhls', 'Version': room.version, 'Architecture': 'amd64'}
+    check(wanted.items() <= fields.items() and room.package.name == f'llhls_{room.version}_amd64.deb', f'the fields are {fields}')
+    further = '(, libgcc-s1)?' if room.version != VERSION else ''
+    check(re.fullmatch(rf'libc6 \(>= 2\.[0-9]+(\.[0-9]+)?\){further}', fields['Depends']), f'it depends on {fields["Depends"]}')
     check('@' not in fields['Installed-Size'] + fields['Depends'] and '<' in fields['Maintainer'], f'the fields are {fields}')
 
 
@@ -112,6 +125,20 @@ def needs_no_other_library(room):
     run = room.run(['env', f'PROGRAM={shutil.which("dpkg-deb")}', ROOT / 'packaging/deb.sh', room.folder / 'refused'])
     check(run.status == 1 and 'needs other libraries' in run.stderr, f'status {run.status}, {run.stderr}')
     check(not list(room.folder.glob('refused/*.deb')), 'a package is built')
+
+
+def says_if_it_is_unproved(room):
+    """The description says that the program is proved, or that it isn't, as the program itself does, and so does the version."""
+    said = room.out('dpkg-deb', '-f', room.package, 'Description')
+    is_unproved = is_unproved_by_itself(room.program)
+    check(('NOT PROVED' in said, 'is proved' in said, room.version != VERSION) == (is_unproved, not is_unproved, is_unproved), said)
+
+
+def packs_no_unproved_one(room):
+    """A program that says that it isn't proved has a package of another version than one that doesn't say so, with another description."""
+    other = build(stand_in(room.folder / 'llhls', 'built with a kit, not proved'), room.folder / 'other')
+    check(other.name == f'llhls_{VERSION}{UNPROVED}_amd64.deb', f'the package is {other.name}')
+    check('NOT PROVED' in room.out('dpkg-deb', '-f', other, 'Description'), 'the description does not say it')
 
 
 def is_quiet_to_lintian(room):
@@ -167,10 +194,10 @@ def is_installed_and_purged(room):
     before = paths(tree)
     shutil.copy(room.package, tree / 'run')
     start = time.monotonic()
-    room.out('chroot', tree, 'apt-get', 'install', '-y', f'/run/{NAME}')
+    room.out('chroot', tree, 'apt-get', 'install', '-y', f'/run/{room.package.name}')
     served_in(room, tree)
     print(f'from apt-get install to a playlist: {time.monotonic() - start:.1f} s')
-    room.out('chroot', tree, 'apt-get', 'install', '-y', '--reinstall', f'/run/{NAME}')
+    room.out('chroot', tree, 'apt-get', 'install', '-y', '--reinstall', f'/run/{room.package.name}')
     room.is_served()
     room.stop_server(15)
     check((tree / 'usr/share/man/man1/llhls.1.gz').exists(), 'the manual page is not installed')
@@ -184,8 +211,9 @@ def is_installed_and_purged(room):
 
 def all_tests(is_real):
     """Yields each test with why it can't be tried here, or ''. `is_real` says that the program is none that stands in."""
-    for test in has_its_files, has_the_bytes, has_its_fields, is_built_again, needs_no_other_library:
+    for test in has_its_files, has_the_bytes, has_its_fields, says_if_it_is_unproved, packs_no_unproved_one, is_built_again:
         yield test, ''
+    yield needs_no_other_library, ''
     yield is_quiet_to_lintian, missing('lintian')
     yield has_a_sound_unit, missing('systemd-analyze')
     if os.environ.get('SLOW'):
@@ -200,7 +228,8 @@ def main(path=None, *names):
     with tempfile.TemporaryDirectory() as folder:
         program = path and pathlib.Path(path).resolve() or pathlib.Path(folder, 'llhls')
         if path is None:
-            subprocess.run([os.environ.get('CC') or 'cc', '-x', 'c', '-', '-pie', '-o', program], input=STAND_IN.encode(), check=True)
+            stand_in(program, 'a stand-in')
+        PackageRoom.version += UNPROVED if is_unproved_by_itself(program) else ''
         PackageRoom.package = build(program, folder)
         return try_named(PackageRoom, program, names, [(test,) for test, why in tests if not why], skips=[(test, why) for test, why in tests if why])
 
