@@ -69,4 +69,4 @@ demo:
 
 .PHONY: kit
 kit:
-	@command -v rt >/dev/null || { echo 'rt, the command of the Rattle kit, is not on the path: README.md, "Run it"' >&2; exit 1; }
+	@command -v rt >/dev/null || { echo 'rt, the command of the Rattle kit, is not on the path: README.md, "The kit"' >&2; exit 1; }
