@@ -2,10 +2,11 @@
 HERE := $(dir $(lastword $(MAKEFILE_LIST)))
 PREFIX ?= /usr/local
 
-.PHONY: help run build install deb test edits try refused-memory bench demo
+.PHONY: help run quick build install deb test edits try refused-memory bench demo
 
 help:
-	@echo 'make run              runs the program on examples/first.script, and as a server, in a minute or two and before anything is proved'
+	@echo 'make run              builds the program unproved, once, and shows a first playlist and a first request that is held'
+	@echo 'make quick            builds that program alone, and prints its path'
 	@echo 'make build            proves and builds the program'
 	@echo 'make install          does that and copies it to PREFIX/bin, and its manual page to PREFIX/share/man (PREFIX=$(PREFIX))'
 	@echo 'make deb              proves and builds the program, and makes a Debian package of it in packaging/out (PROGRAM=PATH packages another)'
@@ -14,10 +15,14 @@ help:
 	@echo 'make try              runs each row of input and output on the program before it is proved, with checks'
 	@echo 'make refused-memory   refuses each allocation of the program in turn'
 	@echo 'make bench            measures speed and memory'
-	@echo 'make demo             shows a picture in a browser, in a minute or two and before anything is proved: ffmpeg, push, serve and a page'
+	@echo 'make demo             shows a picture with sound in a browser, before anything is proved: ffmpeg, push, serve and a page (PORT=8080; LLHLS=PATH takes another program)'
 
-run: kit
+# (what builds the quick program says if there is no kit)
+run:
 	@$(HERE)tests/run.sh
+
+quick:
+	@$(HERE)tests/lib/quick.sh
 
 build: kit
 	@$(HERE)tests/build.sh
@@ -36,11 +41,11 @@ test: kit
 edits: kit
 	@$(HERE)tests/edits.sh $(CRATES)
 
-try: kit
-	@$(HERE)tests/try_rows.sh
+try:
+	@$(HERE)tests/program/try_rows.sh
 
 refused-memory: kit
-	@$(HERE)tests/refused_memory.sh
+	@$(HERE)tests/program/refused_memory.sh
 
 bench: kit
 	@$(HERE)bench/replay.sh
@@ -59,9 +64,9 @@ bench: kit
 	@$(HERE)bench/players.py
 	@$(HERE)bench/soak.sh
 
-demo: kit
+demo:
 	@exec $(HERE)examples/demo.sh
 
 .PHONY: kit
 kit:
-	@command -v rt >/dev/null || { echo 'rt, the command of the Rattle kit, is not on the path: README.md, "Run it"' >&2; exit 1; }
+	@command -v rt >/dev/null || { echo 'rt, the command of the Rattle kit, is not on the path: README.md, "The kit"' >&2; exit 1; }

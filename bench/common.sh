@@ -1,5 +1,5 @@
-# What the benches share beside tests/common.sh; each sources it first. They judge nothing; if the program doesn't do what is measured, they end.
-. "$(dirname "${BASH_SOURCE[0]}")/../tests/common.sh" || exit 2
+# What the benches share beside tests/lib/common.sh; each sources it first. They judge nothing; if the program doesn't do what is measured, they end.
+. "$(dirname "${BASH_SOURCE[0]}")/../tests/lib/common.sh" || exit 2
 set -eo pipefail
 
 # take_program_or_proved [PATH]: sets `program`, by default to the proved one.

@@ -15,7 +15,7 @@ import threading
 import time
 
 ROOT = pathlib.Path(__file__).resolve().parent.parent
-sys.path.insert(0, str(ROOT / 'tests'))
+sys.path.insert(0, str(ROOT / 'tests/lib'))
 from chromium import Chromium  # noqa: E402
 from page_origin import Host  # noqa: E402
 from rooms import Room  # noqa: E402

@@ -67,12 +67,18 @@ class Server(http.server.ThreadingHTTPServer):
             super().handle_error(*words)
 
 
-if __name__ == "__main__":
-    if len(sys.argv) not in (3, 4):
-        sys.exit(__doc__.splitlines()[0])
-    Near.origin = int(sys.argv[2])
-    Near.folder = pathlib.Path(sys.argv[3]) if len(sys.argv) > 3 else Near.folder
+def main(port, origin, folder=Near.folder):
+    """Answers at `port` until Ctrl-C. Returns why it can't, if somebody else has that port."""
+    Near.origin, Near.folder = int(origin), pathlib.Path(folder)
     try:
-        Server(int(sys.argv[1])).serve_forever()
+        Server(int(port)).serve_forever()
+    except OSError as error:
+        return f"near.py: no page at 127.0.0.1:{port}: {error.strerror}"
     except KeyboardInterrupt:
-        pass
+        return None
+
+
+if __name__ == "__main__":
+    if len(sys.argv) not in (3, 4) or not all(re.fullmatch("[0-9]{1,5}", port) for port in sys.argv[1:3]):
+        sys.exit(__doc__.splitlines()[0])
+    sys.exit(main(*sys.argv[1:]))

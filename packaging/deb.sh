@@ -1,7 +1,8 @@
 #!/usr/bin/env bash
 # deb.sh [FOLDER]: builds the Debian package llhls_VERSION_amd64.deb in FOLDER, packaging/out if it isn't given, and prints its path. VERSION is that of
-# the file VERSION at the top. It holds the proved program (tests/program.sh), or the one that PROGRAM names. The same commit and program result in the
-# same bytes: all times are that of the last commit, or SOURCE_DATE_EPOCH.
+# the file VERSION at the top. It holds the proved program (tests/program.sh), or the one that PROGRAM names; if that says that it isn't proved, as the
+# quick program does, VERSION ends in `~unproved`, and the description says so. The same commit and program result in the same bytes: all times are
+# that of the last commit, or SOURCE_DATE_EPOCH.
 set -euo pipefail
 folder=$(realpath -m -- "${1-$(dirname "${BASH_SOURCE[0]}")/out}")
 program=$(LLHLS=${PROGRAM-${LLHLS-}} "$(dirname "${BASH_SOURCE[0]}")/../tests/program.sh")
@@ -16,6 +17,13 @@ last() {
 
 export SOURCE_DATE_EPOCH=${SOURCE_DATE_EPOCH-$(last %ct "$(stat -c %Y VERSION)")}
 version=$(<VERSION)
+proof=' Every byte of every playlist is proved to be the one that the rules give for\n what was published.'
+libraries=libc.so.6
+if grep -q ', not proved$' < <("$program" version 2>/dev/null </dev/null); then
+    version=$version~unproved
+    proof=' This program is NOT PROVED: it was built from the sources as they are, with\n checks that stop it at a fault.'
+    libraries='libc.so.6 libgcc_s.so.1 libm.so.6'
+fi
 maintainer=${MAINTAINER-$(last '%an <%ae>' 'nobody <nobody@localhost>')}
 room=$(mktemp -d)
 trap 'rm -rf "$room"' EXIT
@@ -34,15 +42,16 @@ pack() {
     gzip -9n >"$tree/$1"
 }
 
-# depends: prints the libraries that the program needs. It is linked with the C library alone.
+# depends: prints the packages that the program needs. It is linked with the C library alone, if it isn't the quick one.
 depends() {
-    local needed
+    local needed beyond
     needed=$(objdump -p "$program" | awk '$1 == "NEEDED" { print $2 }')
-    if [ "$needed" != libc.so.6 ]; then
-        echo "deb.sh: the program needs other libraries than libc.so.6:" $needed >&2
+    beyond=$(grep -Fxv "${libraries// /$'\n'}" <<<"$needed" || true)
+    if [ -n "$beyond" ]; then
+        echo "deb.sh: the program needs other libraries than $libraries:" $beyond >&2
         return 1
     fi
-    echo "libc6 (>= $(objdump -T "$program" | grep -o 'GLIBC_[0-9.]*' | sort -uV | sed -n '$s/GLIBC_//p'))"
+    echo "libc6 (>= $(objdump -T "$program" | grep -o 'GLIBC_[0-9.]*' | sort -uV | sed -n '$s/GLIBC_//p'))$(sed -n 's/^libgcc_s.*/, libgcc-s1/p' <<<"$needed")"
 }
 
 changelog() {
@@ -68,7 +77,7 @@ size=$(find "$tree" -printf '%y %s\n' | awk '{ sum += $1 == "f" ? int(($2 + 1023
 install -d "$tree/DEBIAN"
 install -m 755 packaging/postinst packaging/prerm packaging/postrm "$tree/DEBIAN"
 depends=$(depends)
-sed "s/@version@/$version/; s/@maintainer@/$maintainer/; s/@size@/$size/; s/@depends@/$depends/" packaging/control >"$tree/DEBIAN/control"
+sed "s/@version@/$version/; s/@maintainer@/$maintainer/; s/@size@/$size/; s/@depends@/$depends/; s/@proof@/$proof/" packaging/control >"$tree/DEBIAN/control"
 (cd "$tree" && find . -path ./DEBIAN -prune -o -type f -printf '%P\0' | sort -z | xargs -0 md5sum) >"$room/md5sums"
 install -m 644 "$room/md5sums" "$tree/DEBIAN"
 find "$tree" -exec touch -h -d "@$SOURCE_DATE_EPOCH" {} +

@@ -4,7 +4,7 @@
 # crates without their must-fail edits; if the kit keeps what it proved, `make test` takes it from there.
 set -euo pipefail
 cd "$(dirname "${BASH_SOURCE[0]}")/.."
-. tests/copy.sh
+. tests/lib/copy.sh
 name=${1:-llhls}
 room=$(mktemp -d)
 trap 'rm -rf "$room"' EXIT

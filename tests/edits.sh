@@ -4,7 +4,7 @@
 # there. The last line, `N passed, M failed`, counts crates and edits.
 set -euo pipefail
 cd "$(dirname "${BASH_SOURCE[0]}")/.."
-. tests/copy.sh
+. tests/lib/copy.sh
 copy=$(mktemp -d) said=$(mktemp)
 trap 'rm -rf "$copy" "$said"' EXIT
 if [ $# = 0 ]; then
