@@ -88,6 +88,7 @@ for name in server/{allowed,doors,log,record,spool,status}.py push/{pair,push}.p
 done
 begin tests/push/killed.py "$program" 20
 waiting=$((waiting + 1))
+start tests/program/explained_faults.py "$program"
 start tests/records/explained.py "$program"
 start tests/records/multivariant.py "$program"
 start tests/repository/package.py "$program"
