@@ -69,10 +69,9 @@ recent=$here/apply/applies_to_a_recent_base
 expect usage_of_check_alone /dev/null 2 'llhls: usage' check </dev/null
 expect usage_of_check_of_two_files /dev/null 2 'llhls: usage' check "$first" "$first" </dev/null
 expect usage_of_explain_alone /dev/null 2 'llhls: usage' explain </dev/null
-for entry in x '' -1 03 +3 18446744073709551616; do
+for entry in x '' -1 0 03 +3 18446744073709551616; do
     expect "usage_of_explain_of_entry_$entry" /dev/null 2 'llhls: usage' explain "$records/check/a_held_request" "$entry" </dev/null
 done
-expect explain_of_entry_0 /dev/null 3 'llhls: NoEntry' explain "$records/check/a_held_request" 0 </dev/null
 expect read_of_no_record_to_explain /dev/null 4 'llhls: Read' explain "$room/none" 1 </dev/null
 # The quick program says that it isn't proved.
 kit=$(grep -o 'rattle-kit-[a-z0-9]* logic [a-z0-9]*' "$root/README.md" | head -n 1)
