@@ -66,6 +66,7 @@ start tests/repository/edits_apply.py
 start tests/repository/listed.py
 start tests/repository/contents.py
 start tests/repository/build_lines.sh
+start tests/repository/quick_builds.sh
 begin crates_tests
 if [ -n "${SLOW-}" ]; then
     begin nice tests/program/try_rows.sh

@@ -20,15 +20,12 @@ crates_below() {
 }
 
 # copy_crates FOLDER NAME..: copies these crates and those that they stand on to FOLDER, as a repository of their own, without what was built of them
-# and without their must-fail edits.
+# and without their must-fail edits. Fails if one can't be copied.
 copy_crates() {
     local to=$1 crate
-    mkdir -p "$to/crates"
-    cp HANDLES "$to"
-    crates_below "${@:2}" >"$to/crates.txt"
+    mkdir -p "$to/crates" && cp HANDLES "$to" && crates_below "${@:2}" >"$to/crates.txt" || return
     for crate in $(cut -d: -f1 "$to/crates.txt"); do
-        mkdir "$to/crates/$crate"
-        find "crates/$crate" -mindepth 1 -maxdepth 1 ! -name out ! -name must-fail -exec cp -r {} "$to/crates/$crate" \;
+        mkdir "$to/crates/$crate" && find "crates/$crate" -mindepth 1 -maxdepth 1 ! -name out ! -name must-fail -exec cp -r -t "$to/crates/$crate" {} + || return
     done
 }
 

@@ -6,11 +6,12 @@
 . "$(dirname "${BASH_SOURCE[0]}")/../lib/common.sh" || exit 2
 take_program "$1"
 records=$root/tests/records
+said_version=$(timeout 60 "$program" version 2>/dev/null </dev/null)
 "$lib/gather_rows.sh" "$room/rows" || exit 2
 
-# is_quick: returns whether this is the quick program, which isn't proved and has checks that take time.
+# is_quick: returns whether this is the quick program, which says that it isn't proved, and has checks that take time.
 is_quick() {
-    [ "$program" = "$root/build/quick/llhls" ]
+    [[ $said_version == *', not proved' ]]
 }
 
 # row NAME: runs a row.
