@@ -82,15 +82,14 @@ all_of() {
     ! IFS= read -r -d '' said <"$1"
 }
 
-# is_said FAULT: returns whether `said` is this line and maybe lines after it that explain it, each indented by two spaces; or nothing, if FAULT is empty.
+# is_said FAULT: returns whether `said` is this line, or none if FAULT is empty, and maybe lines after it that explain how the program ended, each
+# indented by two spaces.
 is_said() {
-    local rest
-    if [ -z "$1" ]; then
-        [ -z "$said" ]
-        return
+    local rest=$said
+    if [ -n "$1" ]; then
+        rest=${said#"$1"$'\n'}
+        [ "$rest" != "$said" ] || return
     fi
-    rest=${said#"$1"$'\n'}
-    [ "$rest" != "$said" ] || return
     while [ -n "$rest" ]; do
         [[ $rest == '  '*$'\n'* ]] || return
         rest=${rest#*$'\n'}
@@ -98,13 +97,13 @@ is_said() {
 }
 
 # expect NAME OUTPUT STATUS FAULT WORD..: runs the program on standard input. Tests that it writes what the file OUTPUT holds, says FAULT on standard
-# error, or nothing if that is empty, and ends with STATUS.
+# error, or nothing if that is empty, and ends with STATUS. If that is 0, nothing is said.
 expect() {
     local name=$1 output=$2 wanted=$3 fault=$4 status
     shift 4
     timeout 120 "$program" "$@" >"$room/stdout" 2>"$room/stderr"
     status=$?
-    if [ "$status" = "$wanted" ] && cmp -s "$room/stdout" "$output" && all_of "$room/stderr" && is_said "$fault"; then
+    if [ "$status" = "$wanted" ] && cmp -s "$room/stdout" "$output" && all_of "$room/stderr" && is_said "$fault" && [ "$wanted${said:+said}" != 0said ]; then
         pass
     else
         fail "$name: status $status, and $wanted is wanted; standard error (wanted is '$fault'):"

@@ -56,10 +56,11 @@ impl NewFiles {
 
     /// Removes them, the last one first. What the system doesn't remove stays.
     pub fn remove<R: Files>(mut self, rt: &R) {
-        while let Some(path) = self.0.pop() {
-            let _ = match path {
-                NewPath::File(path) => fs::remove_file(rt, path.as_str()),
-                NewPath::Folder(path) => fs::remove_dir(rt, path.as_str()),
+        for _ in 0..self.0.len() {
+            let _ = match self.0.pop() {
+                Some(NewPath::File(path)) => fs::remove_file(rt, path.as_str()),
+                Some(NewPath::Folder(path)) => fs::remove_dir(rt, path.as_str()),
+                None => Ok(()),
             };
         }
     }

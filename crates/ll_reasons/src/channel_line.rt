@@ -113,14 +113,13 @@ impl<'a> Values<'a> {
 
     /// Returns the first of the renditions' names that is none, or that stands a second time.
     fn wrong_name(&self) -> &'a str {
-        let mut rest = self.renditions;
-        while let Some((name, later)) = rest.split_once(',') {
-            if !is_name(name) || later.split(',').any(|other| other == name) {
+        for (place, name) in self.renditions.split(',').enumerate() {
+            let mut before = self.renditions.split(',').take(place);
+            if !is_name(name) || before.any(|other| other == name) {
                 return name;
             }
-            rest = later;
         }
-        rest
+        self.renditions
     }
 }
 
