@@ -11,7 +11,7 @@ use Rattle.ll_player.specs.Playing.{IsCutShort, IsPlaying, Opening, last_pass, m
 use Rattle.ll_player.specs.Steps.{IsHalfTurn, Untaken, Untold}
 use Rattle.ll_player.proofs.LeftLemmas.{left-all, left-few}
 use Rattle.ll_player.proofs.LeftLemmas.{follows-grows}
-use Rattle.ll_player.proofs.SessionLemmas.{past-one, taken, wants-append}
+use Rattle.ll_player.proofs.SessionLemmas.{past-one, taken, unmuted-one, wants-append}
 use Rattle.ll_session.specs.Past.{Next, Past, next_entries, past}
 use Rattle.ll_session.specs.Talk.{SessionValue, next_want}
 use Rattle.ll_settings.specs.Settings.{Configuration}
@@ -24,9 +24,10 @@ module _ (shows : ℕ → Type 0) (hub : List Configuration) (alone : Bool) (o :
       → IsCutShort shows hub alone o inward written now
   cut-reading mid inward written session claim pass now more found came p read grows =
       let q = past p.calls in
-      let few = left-few shows hub alone (last_pass o.pass p.plays) pass p.ends session.out session.shut claim (wants_of q.entries) (wants_in p.plays) p.left in
+      let few = left-few shows hub alone (last_pass o.pass p.plays) pass p.ends session.out session.shut q.overflowed claim (wants_of q.entries) (wants_in p.plays) p.left in
       record {
         calls = p.calls;
+        unmuted = p.unmuted;
         reads = p.reads + more;
         ends = p.ends + found;
         untaken = came;
@@ -46,9 +47,10 @@ module _ (shows : ℕ → Type 0) (hub : List Configuration) (alone : Bool) (o :
       → IsPlaying shows hub alone o (moment inward written session claim pass) → IsPrefix pass.history now.history → IsCutShort shows hub alone o inward written now
   cut-now inward written session claim pass now p grows =
       let q = past p.calls in
-      let few = left-few shows hub alone (last_pass o.pass p.plays) pass p.ends session.out session.shut claim (wants_of q.entries) (wants_in p.plays) p.left in
+      let few = left-few shows hub alone (last_pass o.pass p.plays) pass p.ends session.out session.shut q.overflowed claim (wants_of q.entries) (wants_in p.plays) p.left in
       record {
         calls = p.calls;
+        unmuted = p.unmuted;
         reads = p.reads;
         ends = p.ends;
         untaken = [];
@@ -75,9 +77,10 @@ module _ (shows : ℕ → Type 0) (hub : List Configuration) (alone : Bool) (o :
       let q = past p.calls in
       let t = taken old want some in
       let more = past-one p.calls Next in
-      let all = left-all shows hub alone (last_pass o.pass p.plays) pass p.ends old.out old.shut (wants_of q.entries) (wants_in p.plays) p.left t.free t.unshut in
+      let all = left-all shows hub alone (last_pass o.pass p.plays) pass p.ends old.out old.shut q.overflowed (wants_of q.entries) (wants_in p.plays) p.left t.free t.unshut in
       record {
         calls = p.calls ++ Next ∷ [];
+        unmuted = unmuted-one p.calls Next p.unmuted (λ e. cc);
         reads = p.reads;
         ends = p.ends;
         untaken = [];

@@ -66,73 +66,75 @@ reply-grows hub claim before after told r = r.replied.decided.grows
 
 module _ (shows : ℕ → Type 0) (hub : List Configuration) (alone : Bool) (last pass : PassValue) where
   -- the same by other names
-  pub left-as : (ends : ℕ) (out out' : Option Bool) (shut shut' : Bool) (claim : Option ClaimValue) (asked asked' answered answered' : List WantValue)
-      → out ≡ out' → shut ≡ shut' → asked ≡ asked' → answered ≡ answered' → IsLeft shows hub alone last pass ends out shut claim asked answered
-      → IsLeft shows hub alone last pass ends out' shut' claim asked' answered'
-  left-as ends out out' shut shut' claim asked asked' answered answered' o s a w l =
-      subst (λ x. IsLeft shows hub alone last pass ends out' shut' claim asked' x) w
-      (subst (λ x. IsLeft shows hub alone last pass ends out' shut' claim x answered) a
-      (subst (λ x. IsLeft shows hub alone last pass ends out' x claim asked answered) s
-      (subst (λ x. IsLeft shows hub alone last pass ends x shut claim asked answered) o l)))
+  pub left-as : (ends : ℕ) (out out' : Option Bool) (shut shut' over : Bool) (claim : Option ClaimValue) (asked asked' answered answered' : List WantValue)
+      → out ≡ out' → shut ≡ shut' → asked ≡ asked' → answered ≡ answered' → IsLeft shows hub alone last pass ends out shut over claim asked answered
+      → IsLeft shows hub alone last pass ends out' shut' over claim asked' answered'
+  left-as ends out out' shut shut' over claim asked asked' answered answered' o s a w l =
+      subst (λ x. IsLeft shows hub alone last pass ends out' shut' over claim asked' x) w
+      (subst (λ x. IsLeft shows hub alone last pass ends out' shut' over claim x answered) a
+      (subst (λ x. IsLeft shows hub alone last pass ends out' x over claim asked answered) s
+      (subst (λ x. IsLeft shows hub alone last pass ends x shut over claim asked answered) o l)))
 
   -- its other end was looked at once more
-  pub left-ends : (ends more : ℕ) (out : Option Bool) (shut : Bool) (claim : Option ClaimValue) (asked answered : List WantValue)
-      → IsLeft shows hub alone last pass ends out shut claim asked answered → IsLeft shows hub alone last pass (ends + more) out shut claim asked answered
-  left-ends ends more out shut claim asked answered (All a b c d) = All a b c d
-  left-ends ends more out shut claim asked answered (Held want keep c before after a b d e f g) = Held want keep c before after a b d e f g
-  left-ends ends more out shut claim asked answered (Gone want keep a b n c d) = Gone want keep a b (omega (arith, n)) c d
-  left-ends ends more out shut claim asked answered (Shut want a b c d) = Shut want a b c d
+  pub left-ends : (ends more : ℕ) (out : Option Bool) (shut over : Bool) (claim : Option ClaimValue) (asked answered : List WantValue)
+      → IsLeft shows hub alone last pass ends out shut over claim asked answered → IsLeft shows hub alone last pass (ends + more) out shut over claim asked answered
+  left-ends ends more out shut over claim asked answered (All a b c d) = All a b c d
+  left-ends ends more out shut over claim asked answered (Held want keep c before after a b d e f g) = Held want keep c before after a b d e f g
+  left-ends ends more out shut over claim asked answered (Gone want keep a b n c d) = Gone want keep a b (omega (arith, n)) c d
+  left-ends ends more out shut over claim asked answered (Shut want a b f c d) = Shut want a b f c d
 
   -- none is held, and none is left, if another can be taken
-  pub left-all : (ends : ℕ) (out : Option Bool) (shut : Bool) (asked answered : List WantValue) → IsLeft shows hub alone last pass ends out shut None asked answered
+  pub left-all : (ends : ℕ) (out : Option Bool) (shut over : Bool) (asked answered : List WantValue) → IsLeft shows hub alone last pass ends out shut over None asked answered
       → out ≡ None → shut ≡ false → (asked ≡ answered) × Follows alone last pass
-  left-all ends out shut asked answered (All a b c d) free unshut = (c, d)
-  left-all ends out shut asked answered (Held want keep c before after a b d e f g) free unshut = absurd (none-some c a)
-  left-all ends out shut asked answered (Gone want keep a b n c d) free unshut = absurd (none-some keep (sym free ∙ b))
-  left-all ends out shut asked answered (Shut want a b c d) free unshut = absurd (cc (sym b ∙ unshut))
+  left-all ends out shut over asked answered (All a b c d) free unshut = (c, d)
+  left-all ends out shut over asked answered (Held want keep c before after a b d e f g) free unshut = absurd (none-some c a)
+  left-all ends out shut over asked answered (Gone want keep a b n c d) free unshut = absurd (none-some keep (sym free ∙ b))
+  left-all ends out shut over asked answered (Shut want a b f c d) free unshut = absurd (cc (sym b ∙ unshut))
 
   -- nothing is taken
-  pub left-nothing : (ends : ℕ) (s : SessionValue) (asked answered : List WantValue) → next_want s ≡ None
-      → IsLeft shows hub alone last pass ends s.out s.shut None asked answered → IsLeft shows hub alone last pass ends (pulled s).out (pulled s).shut None asked answered
-  left-nothing ends s asked answered none (All a b c d) = All a (stays-free s b none) c d
-  left-nothing ends s asked answered none (Held want keep c before after a b d e f g) = absurd (none-some c a)
-  left-nothing ends s asked answered none (Gone want keep a b n c d) = Gone want keep a (ap (λ (v : SessionValue). v.out) (pulled-out s keep b) ∙ b) n c d
-  left-nothing ends s asked answered none (Shut want a b c d) = Shut want a (ap (λ (v : SessionValue). v.shut) (pulled-shut s b) ∙ b) c d
+  pub left-nothing : (ends : ℕ) (s : SessionValue) (over : Bool) (asked answered : List WantValue) → next_want s ≡ None
+      → IsLeft shows hub alone last pass ends s.out s.shut over None asked answered → IsLeft shows hub alone last pass ends (pulled s).out (pulled s).shut over None asked answered
+  left-nothing ends s over asked answered none (All a b c d) = All a (stays-free s b none) c d
+  left-nothing ends s over asked answered none (Held want keep c before after a b d e f g) = absurd (none-some c a)
+  left-nothing ends s over asked answered none (Gone want keep a b n c d) = Gone want keep a (ap (λ (v : SessionValue). v.out) (pulled-out s keep b) ∙ b) n c d
+  left-nothing ends s over asked answered none (Shut want a b f c d) = Shut want a (ap (λ (v : SessionValue). v.shut) (pulled-shut s b) ∙ b) f c d
 
   -- the player has hung up
-  pub left-gone : (ends more : ℕ) (out : Option Bool) (shut : Bool) (c : ClaimValue) (asked answered : List WantValue) → 1 ≤ more
-      → IsLeft shows hub alone last pass ends out shut (Some c) asked answered → IsLeft shows hub alone last pass (ends + more) out shut None asked answered
-  left-gone ends more out shut c asked answered n (All a b d e) = absurd (none-some c (sym a))
-  left-gone ends more out shut c asked answered n (Held want keep claim before after a b d e f g) =
+  pub left-gone : (ends more : ℕ) (out : Option Bool) (shut over : Bool) (c : ClaimValue) (asked answered : List WantValue) → 1 ≤ more
+      → IsLeft shows hub alone last pass ends out shut over (Some c) asked answered → IsLeft shows hub alone last pass (ends + more) out shut over None asked answered
+  left-gone ends more out shut over c asked answered n (All a b d e) = absurd (none-some c (sym a))
+  left-gone ends more out shut over c asked answered n (Held want keep claim before after a b d e f g) =
       Gone want keep refl b (omega (arith, n)) d
       (prefix-trans last.history before.history pass.history (follows-grows alone last before e)
       (prefix-trans before.history after.history pass.history (held-grows shows hub want before after claim f) (follows-grows alone after pass g)))
-  left-gone ends more out shut c asked answered n (Gone want keep a b k d e) = absurd (none-some c (sym a))
-  left-gone ends more out shut c asked answered n (Shut want a b d e) = absurd (none-some c (sym a))
+  left-gone ends more out shut over c asked answered n (Gone want keep a b k d e) = absurd (none-some c (sym a))
+  left-gone ends more out shut over c asked answered n (Shut want a b f d e) = absurd (none-some c (sym a))
 
-  -- at most one is left
-  pub left-few : (ends : ℕ) (out : Option Bool) (shut : Bool) (claim : Option ClaimValue) (asked answered : List WantValue)
-      → IsLeft shows hub alone last pass ends out shut claim asked answered
+  -- at most one is left; none, if none is held or has lost its player, and not too many bytes came
+  pub left-few : (ends : ℕ) (out : Option Bool) (shut over : Bool) (claim : Option ClaimValue) (asked answered : List WantValue)
+      → IsLeft shows hub alone last pass ends out shut over claim asked answered
       → (unanswered : List WantValue) × (asked ≡ answered ++ unanswered) × (length unanswered ≤ 1) × IsPrefix last.history pass.history
-  left-few ends out shut claim asked answered (All a b c d) = ([], c ∙ sym (append-nil answered), omega arith, follows-grows alone last pass d)
-  left-few ends out shut claim asked answered (Held want keep c before after a b d e f g) = (
+      × (claim ≡ None → out ≡ None → over ≡ false → unanswered ≡ [])
+  left-few ends out shut over claim asked answered (All a b c d) = ([], c ∙ sym (append-nil answered), omega arith, follows-grows alone last pass d, λ none free few. refl)
+  left-few ends out shut over claim asked answered (Held want keep c before after a b d e f g) = (
     want ∷ [],
     d,
     omega arith,
     prefix-trans last.history before.history pass.history (follows-grows alone last before e)
         (prefix-trans before.history after.history pass.history (held-grows shows hub want before after c f) (follows-grows alone after pass g)),
+    λ none free few. absurd (none-some c (sym none ∙ a)),
   )
-  left-few ends out shut claim asked answered (Gone want keep a b n c d) = (want ∷ [], c, omega arith, d)
-  left-few ends out shut claim asked answered (Shut want a b c d) = (want ∷ [], c, omega arith, d)
+  left-few ends out shut over claim asked answered (Gone want keep a b n c d) = (want ∷ [], c, omega arith, d, λ none free few. absurd (none-some keep (sym free ∙ b)))
+  left-few ends out shut over claim asked answered (Shut want a b f c d) = (want ∷ [], c, omega arith, d, λ none free few. absurd (cc (sym f ∙ few)))
 
 -- others have used the pass
-pub left-later : (shows : ℕ → Type 0) (hub : List Configuration) (alone : Bool) (last pass later : PassValue) (ends : ℕ) (out : Option Bool) (shut : Bool)
+pub left-later : (shows : ℕ → Type 0) (hub : List Configuration) (alone : Bool) (last pass later : PassValue) (ends : ℕ) (out : Option Bool) (shut over : Bool)
     (claim : Option ClaimValue) (asked answered : List WantValue) → Follows alone pass later
-    → IsLeft shows hub alone last pass ends out shut claim asked answered → IsLeft shows hub alone last later ends out shut claim asked answered
-left-later shows hub alone last pass later ends out shut claim asked answered f (All a b c d) = All a b c (follows-then alone last pass later d f)
-left-later shows hub alone last pass later ends out shut claim asked answered f (Held want keep c before after a b d e g h) =
+    → IsLeft shows hub alone last pass ends out shut over claim asked answered → IsLeft shows hub alone last later ends out shut over claim asked answered
+left-later shows hub alone last pass later ends out shut over claim asked answered f (All a b c d) = All a b c (follows-then alone last pass later d f)
+left-later shows hub alone last pass later ends out shut over claim asked answered f (Held want keep c before after a b d e g h) =
     Held want keep c before after a b d e g (follows-then alone after pass later h f)
-left-later shows hub alone last pass later ends out shut claim asked answered f (Gone want keep a b n c d) =
+left-later shows hub alone last pass later ends out shut over claim asked answered f (Gone want keep a b n c d) =
     Gone want keep a b n c (prefix-trans last.history pass.history later.history d (follows-grows alone pass later f))
-left-later shows hub alone last pass later ends out shut claim asked answered f (Shut want a b c d) =
-    Shut want a b c (prefix-trans last.history pass.history later.history d (follows-grows alone pass later f))
+left-later shows hub alone last pass later ends out shut over claim asked answered f (Shut want a b g c d) =
+    Shut want a b g c (prefix-trans last.history pass.history later.history d (follows-grows alone pass later f))

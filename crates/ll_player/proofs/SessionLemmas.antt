@@ -3,11 +3,12 @@ use Rattle.std.proofs.Common.{◌≡◌, ℕ, List, [], ◌∷◌, ◌++◌, Boo
 use Rattle.std.proofs.lemmas.Option.{none-some, same_Some}
 use Rattle.std.proofs.lemmas.List.Concat.{flat_map-append}
 use Rattle.std.proofs.lemmas.List.Sums.{fold-append}
-use Rattle.std.specs.Prelude.{nat_lt, length}
+use Rattle.std.proofs.lemmas.List.Elements.{All-append, All-cons, All-nil, All-push}
+use Rattle.std.specs.Prelude.{◌≢◌, nat_lt, length}
 use Rattle.ll_directive.specs.Targets.{WantValue}
 use Rattle.ll_player.specs.Playing.{want_of, wants_of}
 use Rattle.ll_session.proofs.SplitLemmas.{taking-right, wants}
-use Rattle.ll_session.specs.Past.{Call, before_any, called, next_by, next_entries, past}
+use Rattle.ll_session.specs.Past.{AreUnmuted, Call, Mute, before_any, called, next_by, next_entries, overflows, overflows_by, past}
 use Rattle.ll_session.specs.Requests.{Entry, Wanted, Refused, Faulty}
 use Rattle.ll_session.specs.Talk.{SessionValue, fed, fed_by, fed_to, first_of, given, kept_of, most_waiting, next_want, pulled, pulled_by, replied, replied_by, taking, want_by}
 use Rattle.ll_wire.specs.declared.answer.Answer.{Answer}
@@ -17,6 +18,19 @@ past-one calls call = fold-append called before_any calls (call ∷ [])
 
 pub past-two : (calls : List Call) (call then : Call) → past (calls ++ call ∷ then ∷ []) ≡ called (called (past calls) call) then
 past-two calls call then = fold-append called before_any calls (call ∷ then ∷ [])
+
+-- ---- calls that don't mute it
+
+pub unmuted-none : AreUnmuted []
+unmuted-none = All-nil (λ (c : Call). c ≢ Mute)
+
+pub unmuted-one : (calls : List Call) (call : Call) → AreUnmuted calls → call ≢ Mute → AreUnmuted (calls ++ call ∷ [])
+unmuted-one calls call unmuted n = All-push (λ (c : Call). c ≢ Mute) calls call unmuted n
+
+pub unmuted-two : (calls : List Call) (call then : Call) → AreUnmuted calls → call ≢ Mute → then ≢ Mute → AreUnmuted (calls ++ call ∷ then ∷ [])
+unmuted-two calls call then unmuted n m =
+    All-append (λ (c : Call). c ≢ Mute) calls (call ∷ then ∷ []) unmuted
+    (All-cons (λ (c : Call). c ≢ Mute) call (then ∷ []) n (All-cons (λ (c : Call). c ≢ Mute) then [] m unmuted-none))
 
 -- ---- requests that ask a channel for something
 
@@ -146,3 +160,21 @@ fed-waits s keep piece unshut out stays =
     let is = fed-out s keep piece unshut out in
     ap (λ (v : SessionValue). v.out) is
     ∙ waits-by (nat_lt most_waiting (length (s.unread ++ piece))) s (s.unread ++ piece) keep (sym (ap (λ (v : SessionValue). v.shut) is) ∙ stays) out
+
+-- ---- too many bytes come
+
+pub overflows-out : (s : SessionValue) (keep : Bool) (piece : List ℕ) → s.shut ≡ false → s.out ≡ Some keep
+    → overflows s piece ≡ nat_lt most_waiting (length (s.unread ++ piece))
+overflows-out s keep piece unshut out =
+    ap (λ (b : Bool). overflows_by b s.out (s.unread ++ piece)) unshut ∙ ap (λ (o : Option Bool). overflows_by false o (s.unread ++ piece)) out
+
+over-by : (over : Bool) (s : SessionValue) (bytes : List ℕ) → s.shut ≡ false → (fed_to over s bytes).shut ≡ true → over ≡ true
+over-by true s bytes unshut shut = refl
+over-by false s bytes unshut shut = absurd (cc (sym unshut ∙ shut))
+
+-- if a request is out, too many of them alone shut it
+pub fed-over : (s : SessionValue) (keep : Bool) (piece : List ℕ) → s.shut ≡ false → s.out ≡ Some keep → (fed s piece).shut ≡ true → overflows s piece ≡ true
+fed-over s keep piece unshut out shut =
+    overflows-out s keep piece unshut out
+    ∙ over-by (nat_lt most_waiting (length (s.unread ++ piece))) s (s.unread ++ piece) unshut
+    (sym (ap (λ (v : SessionValue). v.shut) (fed-out s keep piece unshut out)) ∙ shut)

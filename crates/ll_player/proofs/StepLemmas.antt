@@ -5,12 +5,14 @@ use Rattle.ll_hub.specs.Claim.{ClaimValue}
 use Rattle.ll_hub.specs.Passes.{PassValue}
 use Rattle.ll_player.specs.Asking.{IsReplyTo}
 use Rattle.ll_player.specs.Connections.{ConnectionValue, Fails, HasCollected, HasLost, IsOn, Steps, moment_of}
-use Rattle.ll_player.specs.Playing.{IsCutShort, IsPlayed, IsPlaying, Opening, moment}
+use Rattle.ll_player.specs.Playing.{IsCutShort, IsPlayed, IsPlaying, Moment, Opening, moment}
 use Rattle.ll_player.specs.Reading.{Came, Ended, HasCome, IsDrained, IsFed}
 use Rattle.ll_player.specs.Steps.{BreaksOff, PlaysOn}
 use Rattle.ll_service.specs.Reads.{HasEnded}
 use Rattle.ll_player.proofs.CutLemmas.{cut-now}
 use Rattle.ll_player.proofs.PlayLemmas.{playing-collected, playing-fed, playing-first, playing-looked}
+use Rattle.ll_session.proofs.ShutLemmas.{has_shut}
+use Rattle.ll_session.specs.Past.{HasShut, past}
 use Rattle.ll_session.specs.Requests.{requests}
 use Rattle.ll_session.specs.Talk.{SessionValue, fresh}
 use Rattle.ll_settings.specs.Settings.{Configuration}
@@ -124,9 +126,15 @@ none-map f (Some h) e = absurd (cc (e))
 
 -- ---- a connection to its end
 
-shut-or-ended : (shut : Bool) (before after : Inward) {s : Bool} → s ≡ shut → (s ≡ false → HasEnded before after) → (s ≡ true) ⊎ HasEnded before after
-shut-or-ended true before after is ended = inl is
-shut-or-ended false before after is ended = inr (ended is)
+-- why its session has shut
+pub why-shut : (shows : ℕ → Type 0) (hub : List Configuration) (alone : Bool) (o : Opening) (m : Moment) (p : IsPlaying shows hub alone o m) → m.session.shut ≡ true
+    → HasShut (past p.calls)
+why-shut shows hub alone o m p shut = has_shut p.calls p.unmuted (ap (λ (v : SessionValue). v.shut) p.session ∙ shut)
+
+shut-or-ended : {Why : Type 0} (shut : Bool) (before after : Inward) {s : Bool} → s ≡ shut → (s ≡ true → Why) → (s ≡ false → HasEnded before after)
+    → ((s ≡ true) × Why) ⊎ HasEnded before after
+shut-or-ended true before after is why ended = inl (is, why is)
+shut-or-ended false before after is why ended = inr (ended is)
 
 pub played : {A E : Type 0} (r : Result A E) (shows : ℕ → Type 0) (hub : List Configuration) (start pass : PassValue) (before after : Inward) (base written : Option (List ℕ))
     (first last : SessionValue) → first ≡ fresh
@@ -134,15 +142,17 @@ pub played : {A E : Type 0} (r : Result A E) (shows : ℕ → Type 0) (hub : Lis
     → (IsDrained first → OnOk r (IsDrained last)) → OnOk r (last.shut ≡ false → HasEnded before after)
     → OnOk r (IsPlayed shows hub start pass before after base written)
 played (Err e) shows hub start pass before after base written first last new goes drained ended = tt
-played (Ok x) shows hub start pass before after base written first last new goes drained ended = record {
-  session = last;
-  playing =
-      goes (ap (λ (s : SessionValue). s.shut) new) true (record { pass = start; inward = before; written = base })
-      (subst (λ (s : SessionValue). IsPlaying shows hub true (record { pass = start; inward = before; written = base }) (moment before base s None start)) (sym new)
-      (playing-first shows hub true (record { pass = start; inward = before; written = base })));
-  over = shut-or-ended last.shut before after refl ended;
-  drained = drained (subst IsDrained (sym new) drained-fresh);
-}
+played (Ok x) shows hub start pass before after base written first last new goes drained ended =
+    let o : Opening = record { pass = start; inward = before; written = base } in
+    let playing : IsPlaying shows hub true o (moment after written last None pass) =
+    goes (ap (λ (s : SessionValue). s.shut) new) true o
+    (subst (λ (s : SessionValue). IsPlaying shows hub true o (moment before base s None start)) (sym new) (playing-first shows hub true o)) in
+    record {
+      session = last;
+      playing = playing;
+      over = shut-or-ended last.shut before after refl (why-shut shows hub true o (moment after written last None pass) playing) ended;
+      drained = drained (subst IsDrained (sym new) drained-fresh);
+    }
 
 pub stopped : {A E : Type 0} (r : Result A E) (shows : ℕ → Type 0) (hub : List Configuration) (start pass : PassValue) (before after : Inward) (base written : Option (List ℕ))
     (first : SessionValue) → first ≡ fresh

@@ -9,7 +9,7 @@ use Rattle.ll_hub.specs.Calls.{HasSeen}
 use Rattle.ll_hub.specs.Claim.{ClaimValue}
 use Rattle.ll_hub.specs.Passes.{PassValue}
 use Rattle.ll_player.specs.Asking.{IsHeldNow, IsReplyTo, IsToldNow}
-use Rattle.ll_session.specs.Past.{Call, past}
+use Rattle.ll_session.specs.Past.{AreUnmuted, Call, HasShut, past}
 use Rattle.ll_session.specs.Requests.{Entry, Wanted, Refused, Faulty}
 use Rattle.ll_player.specs.Reading.{IsDrained}
 use Rattle.ll_service.specs.Reads.{HasEnded}
@@ -84,23 +84,25 @@ abbrev pub moment : Inward → Option (List ℕ) → SessionValue → Option Cla
 moment inward written session claim pass = record { inward = inward; written = written; session = session; claim = claim; pass = pass }
 
 -- Of the requests `asked`, the first are `answered`, and at most one is left, the last: it is held; or it gets no answer, because the player has hung
--- up (`ends` counts that), or because too many bytes came after it, and the session has shut (rules 29 and 30).
-pub data IsLeft (shows : ℕ → Type 0) (hub : List Configuration) (alone : Bool) (last pass : PassValue) (ends : ℕ) (out : Option Bool) (shut : Bool)
+-- up (`ends` counts that), or because too many bytes came after it (`over`), and the session has shut (rules 29 and 30).
+pub data IsLeft (shows : ℕ → Type 0) (hub : List Configuration) (alone : Bool) (last pass : PassValue) (ends : ℕ) (out : Option Bool) (shut over : Bool)
     (claim : Option ClaimValue) (asked answered : List WantValue) : Type 0 where
-  All : claim ≡ None → out ≡ None → asked ≡ answered → Follows alone last pass → IsLeft shows hub alone last pass ends out shut claim asked answered
+  All : claim ≡ None → out ≡ None → asked ≡ answered → Follows alone last pass → IsLeft shows hub alone last pass ends out shut over claim asked answered
   Held : (want : WantValue) (keep : Bool) (c : ClaimValue) (before after : PassValue) → claim ≡ Some c → out ≡ Some keep → asked ≡ answered ++ want ∷ []
       → Follows alone last before → IsHeldNow shows hub want before after c → Follows alone after pass
-      → IsLeft shows hub alone last pass ends out shut claim asked answered
+      → IsLeft shows hub alone last pass ends out shut over claim asked answered
   Gone : (want : WantValue) (keep : Bool) → claim ≡ None → out ≡ Some keep → 1 ≤ ends → asked ≡ answered ++ want ∷ [] → IsPrefix last.history pass.history
-      → IsLeft shows hub alone last pass ends out shut claim asked answered
-  Shut : (want : WantValue) → claim ≡ None → shut ≡ true → asked ≡ answered ++ want ∷ [] → IsPrefix last.history pass.history
-      → IsLeft shows hub alone last pass ends out shut claim asked answered
+      → IsLeft shows hub alone last pass ends out shut over claim asked answered
+  Shut : (want : WantValue) → claim ≡ None → shut ≡ true → over ≡ true → asked ≡ answered ++ want ∷ [] → IsPrefix last.history pass.history
+      → IsLeft shows hub alone last pass ends out shut over claim asked answered
 
 -- All bytes that came were fed to the session. The requests in them that it gave were answered in their order, each by one answer that is right for
--- it, but for the last, if that is left. What was written is what the session has sent, and nothing else.
+-- it, but for the last, if that is left. What was written is what the session has sent, and nothing else. The session was never muted: nothing was
+-- dropped of what came or was put out.
 pub record IsPlaying (shows : ℕ → Type 0) (hub : List Configuration) (alone : Bool) (o : Opening) (m : Moment) : Type 0 where
   -- the calls on the session
   pub calls : List Call
+  pub unmuted : AreUnmuted calls
   pub session : (past calls).session ≡ m.session
   pub reads : ℕ
   pub ends : ℕ
@@ -108,23 +110,26 @@ pub record IsPlaying (shows : ℕ → Type 0) (hub : List Configuration) (alone 
   pub plays : List Play
   pub told : (past calls).replies ≡ answers_in plays
   pub right : AreRight shows hub alone o.pass plays
-  pub left : IsLeft shows hub alone (last_pass o.pass plays) m.pass ends m.session.out m.session.shut m.claim (wants_of (past calls).entries) (wants_in plays)
+  pub left : IsLeft shows hub alone (last_pass o.pass plays) m.pass ends m.session.out m.session.shut (past calls).overflowed m.claim (wants_of (past calls).entries)
+      (wants_in plays)
   pub sent : Appends o.written m.written (past calls).gone
 
 -- ---- to its end
 
--- The connection was ended by its player, or by its session, which has shut. All that was put out was sent, and no request is left, unless the
--- session has shut; but if the player has hung up while its last request was held, that has no answer.
+-- The connection was ended by its player, or by its session, which has shut: after too many bytes, or after a head that is refused or the answer to a
+-- request that doesn't keep it. All that was put out was sent, and no request is left, unless the session has shut; but if the player has hung up
+-- while its last request was held, that has no answer.
 pub record IsPlayed (shows : ℕ → Type 0) (hub : List Configuration) (start pass : PassValue) (before after : Inward) (base written : Option (List ℕ)) : Type 0 where
   pub session : SessionValue
   pub playing : IsPlaying shows hub true (record { pass = start; inward = before; written = base }) (moment after written session None pass)
-  pub over : (session.shut ≡ true) ⊎ HasEnded before after
+  pub over : ((session.shut ≡ true) × HasShut (past playing.calls)) ⊎ HasEnded before after
   pub drained : IsDrained session
 
 -- The connection was cut off. A prefix of the bytes that came was fed to the session; the first requests in it were answered, each by one answer that
 -- is right for it; at most one more was taken, and has no answer. What was written is what the session has sent, and nothing else.
 pub record IsCutShort (shows : ℕ → Type 0) (hub : List Configuration) (alone : Bool) (o : Opening) (inward : Inward) (written : Option (List ℕ)) (pass : PassValue) : Type 0 where
   pub calls : List Call
+  pub unmuted : AreUnmuted calls
   pub reads : ℕ
   pub ends : ℕ
   pub untaken : List ℕ

@@ -1,5 +1,6 @@
 -- Whatever is done with a session, it answers the requests in its bytes.
-use Rattle.std.proofs.Common.{◌≡◌, ℕ, ◌+◌, List, [], ◌∷◌, ◌++◌, Bool, true, false, Option, Some, None, refl, ap, ◌∙◌, sym, subst, arith, length, length-append, append_assoc, append-nil, fold}
+use Rattle.std.proofs.Common.{◌≡◌, ℕ, ◌+◌, ◌<◌, ◌≤◌, List, [], ◌∷◌, ◌++◌, Bool, true, false, Option, Some, None, refl, ap, ◌∙◌, sym, subst, arith, length, length-append, append_assoc, append-nil, fold}
+use Rattle.std.proofs.lemmas.Bool.{ltb-true}
 use Rattle.std.specs.Prelude.{◌||◌, if◌then◌else◌, nat_lt}
 use Rattle.ll_directive.specs.Targets.{WantValue}
 use Rattle.ll_wire.proofs.ResponseLemmas.{responds}
@@ -10,7 +11,7 @@ use Rattle.ll_wire.specs.declared.answer.Answer.TheVariants as answer
 use Rattle.ll_session.specs.Requests.{Entry, Wanted, Refused, Faulty, requests}
 use Rattle.ll_session.specs.Talk.{Taking, taking, entries_of, given, kept_of, fed_to, refusals, overflow, most_waiting}
 use Rattle.ll_session.specs.Past.{Call, Feed, Mute, Next, Reply, Send, Past, before_any, called, past, conversation, IsTalk}
-use Rattle.ll_session.proofs.SplitLemmas.{goes_on, wants, taking-splits, taking-right}
+use Rattle.ll_session.proofs.SplitLemmas.{goes_on, wants, taking-shortens, taking-splits, taking-right}
 use Rattle.ll_session.proofs.SentLemmas.{HasFirst, Put, put_more, put_sent}
 
 -- ---- answers
@@ -51,31 +52,59 @@ given_answers (Some want) = refl
 -- ---- what holds at every moment
 
 -- the requests in the bytes, with whatever follows, are those that were taken and those that are still unread
-abbrev ReadsOn : Bool → Option Bool → List ℕ → List Entry → List ℕ → Type 0
+abbrev pub ReadsOn : Bool → Option Bool → List ℕ → List Entry → List ℕ → Type 0
 ReadsOn true out bytes entries unread = (later : List Entry) × (requests bytes ≡ entries ++ later)
 ReadsOn false out bytes entries unread = (more : List ℕ) → requests (bytes ++ more) ≡ entries ++ (if goes_on false out then requests (unread ++ more) else [])
 
 -- each want but the one that is out has its answer
-abbrev Balanced : Bool → Option Bool → List Entry → List Answer → Type 0
+abbrev pub Balanced : Bool → Option Bool → List Entry → List Answer → Type 0
 Balanced true out entries replies = Unit {0}
 Balanced false None entries replies = wants entries ≡ length replies
 Balanced false (Some keep) entries replies =
     (front : List Entry) × (want : WantValue) × (entries ≡ front ++ Wanted want keep ∷ []) × (wants front ≡ length replies)
 
-record Holds (p : Past) : Type 0 where
-  reads : ReadsOn p.session.shut p.session.out p.fed p.entries p.session.unread
-  balanced : Balanced (p.overflowed || p.session.shut) p.session.out p.entries p.replies
-  put : Put p.gone p.session.answers (conversation p.overflowed p.entries p.replies)
-  shut : p.overflowed ≡ true → p.session.shut ≡ true
-  none : p.session.shut ≡ true → p.session.out ≡ None
+-- no more bytes wait than came, and too many of them only if so many came
+pub record FewWait (bytes unread : List ℕ) (overflowed : Bool) : Type 0 where
+  pub within : length unread ≤ length bytes
+  pub many : overflowed ≡ true → most_waiting < length bytes
 
-holds_first : Holds before_any
+none-wait : (bytes unread : List ℕ) (overflowed : Bool) → FewWait bytes unread overflowed → FewWait bytes [] overflowed
+none-wait bytes unread overflowed f = record { within = omega arith; many = f.many }
+
+less-waits : (bytes unread rest : List ℕ) (overflowed : Bool) → length rest ≤ length unread → FewWait bytes unread overflowed → FewWait bytes rest overflowed
+less-waits bytes unread rest overflowed less f = record { within = omega (arith, less, f.within); many = f.many }
+
+more-waits : (bytes unread piece : List ℕ) → FewWait bytes unread false → FewWait (bytes ++ piece) (unread ++ piece) false
+more-waits bytes unread piece f = record {
+  within = omega (arith, length-append bytes piece, length-append unread piece, f.within);
+  many = λ e. absurd (cc (e));
+}
+
+longer : (most : ℕ) (bytes unread piece : List ℕ) → length unread ≤ length bytes → most < length (unread ++ piece) → most < length (bytes ++ piece)
+longer most bytes unread piece within over = omega (arith, length-append bytes piece, length-append unread piece, within, over)
+
+too-many : (bytes unread piece : List ℕ) → FewWait bytes unread false → nat_lt most_waiting (length (unread ++ piece)) ≡ true → FewWait (bytes ++ piece) [] true
+too-many bytes unread piece f over = record {
+  within = omega arith;
+  many = λ e. longer most_waiting bytes unread piece f.within (ltb-true most_waiting (length (unread ++ piece)) over);
+}
+
+pub record Holds (p : Past) : Type 0 where
+  pub reads : ReadsOn p.session.shut p.session.out p.fed p.entries p.session.unread
+  pub balanced : Balanced (p.overflowed || p.session.shut) p.session.out p.entries p.replies
+  pub put : Put p.gone p.session.answers (conversation p.overflowed p.entries p.replies)
+  pub shut : p.overflowed ≡ true → p.session.shut ≡ true
+  pub none : p.session.shut ≡ true → p.session.out ≡ None
+  pub few : FewWait p.fed p.session.unread p.overflowed
+
+pub holds_first : Holds before_any
 holds_first = record {
   reads = λ more. refl;
   balanced = refl;
   put = record { joined = refl; left = refl };
   shut = λ e. cc;
   none = λ e. refl;
+  few = record { within = omega arith; many = λ e. absurd (cc (e)) };
 }
 
 -- the want that is out, with an overflow in place of its answer, and with one
@@ -121,7 +150,7 @@ next_answers entries passed want replies balanced none =
     ∙ ap (λ (t : List (List ℕ)). conversation false passed [] ++ t) (given_answers want) ∙ append-nil (conversation false passed []) ∙ refused_answers false passed none)
 
 module _ (unread : List ℕ) (answers : List (List ℕ)) (bytes : List ℕ) (entries : List Entry) (replies : List Answer) (gone : List ℕ) where
-  abbrev at : Bool → Option Bool → Bool → Past
+  abbrev pub at : Bool → Option Bool → Bool → Past
   at shut out overflowed = record {
     session = record { unread = unread; answers = answers; out = out; shut = shut };
     fed = bytes;
@@ -133,13 +162,13 @@ module _ (unread : List ℕ) (answers : List (List ℕ)) (bytes : List ℕ) (ent
 
   -- ---- bytes come
 
-  feed_out : (b keep : Bool) (piece : List ℕ) → Holds (at false (Some keep) false)
+  feed_out : (b keep : Bool) (piece : List ℕ) → nat_lt most_waiting (length (unread ++ piece)) ≡ b → Holds (at false (Some keep) false)
       → Holds (record (at false (Some keep) false) {
         session = fed_to b (at false (Some keep) false).session (unread ++ piece);
         fed = bytes ++ piece;
         overflowed = b;
       })
-  feed_out true keep piece h = record {
+  feed_out true keep piece over h = record {
     reads = (_, h.reads piece);
     balanced = tt;
     put =
@@ -147,8 +176,9 @@ module _ (unread : List ℕ) (answers : List (List ℕ)) (bytes : List ℕ) (ent
         (overflow_answers entries h.balanced.0 h.balanced.1 keep replies h.balanced.2 h.balanced.3) h.put;
     shut = λ e. refl;
     none = λ e. refl;
+    few = too-many bytes unread piece h.few over;
   }
-  feed_out false keep piece h = record {
+  feed_out false keep piece over h = record {
     reads = λ more.
         ap requests (append_assoc bytes piece more) ∙ h.reads (piece ++ more)
         ∙ ap (λ l. entries ++ (if keep then requests l else [])) (sym (append_assoc unread piece more));
@@ -156,11 +186,12 @@ module _ (unread : List ℕ) (answers : List (List ℕ)) (bytes : List ℕ) (ent
     put = h.put;
     shut = h.shut;
     none = h.none;
+    few = more-waits bytes unread piece h.few;
   }
 
   feed_holds : (shut : Bool) (out : Option Bool) (overflowed : Bool) (piece : List ℕ) → Holds (at shut out overflowed) → Holds (called (at shut out overflowed) (Feed piece))
-  feed_holds true out true piece h = record { reads = h.reads; balanced = h.balanced; put = h.put; shut = h.shut; none = h.none }
-  feed_holds true out false piece h = record { reads = h.reads; balanced = h.balanced; put = h.put; shut = h.shut; none = h.none }
+  feed_holds true out true piece h = record { reads = h.reads; balanced = h.balanced; put = h.put; shut = h.shut; none = h.none; few = h.few }
+  feed_holds true out false piece h = record { reads = h.reads; balanced = h.balanced; put = h.put; shut = h.shut; none = h.none; few = h.few }
   feed_holds false out true piece h = let e : false ≡ true = h.shut refl in absurd (cc)
   feed_holds false None false piece h = record {
     reads = λ more.
@@ -170,12 +201,13 @@ module _ (unread : List ℕ) (answers : List (List ℕ)) (bytes : List ℕ) (ent
     put = h.put;
     shut = h.shut;
     none = h.none;
+    few = more-waits bytes unread piece h.few;
   }
-  feed_holds false (Some keep) false piece h = feed_out (nat_lt most_waiting (length (unread ++ piece))) keep piece h
+  feed_holds false (Some keep) false piece h = feed_out (nat_lt most_waiting (length (unread ++ piece))) keep piece refl h
 
   -- ---- the next want
 
-  abbrev next_at : List Entry → List ℕ → Option (WantValue × Bool) → Bool → Past
+  abbrev pub next_at : List Entry → List ℕ → Option (WantValue × Bool) → Bool → Past
   next_at passed rest want ends = record {
     session = record { unread = rest; answers = answers ++ refusals passed; out = kept_of want; shut = ends };
     fed = bytes;
@@ -211,8 +243,8 @@ module _ (unread : List ℕ) (answers : List (List ℕ)) (bytes : List ℕ) (ent
 
   next_taken : (t : Taking) → wants t.passed ≡ 0 → (t.ends ≡ true → t.want ≡ None)
       → ((more : List ℕ) → requests (unread ++ more) ≡ entries_of t ++ (if goes_on t.ends (kept_of t.want) then requests (t.rest ++ more) else []))
-      → Holds (at false None false) → Holds (next_at t.passed t.rest t.want t.ends)
-  next_taken t passes none splits h = record {
+      → length t.rest ≤ length unread → Holds (at false None false) → Holds (next_at t.passed t.rest t.want t.ends)
+  next_taken t passes none splits less h = record {
     reads = next_reads t.passed t.rest t.want t.ends h splits;
     balanced = next_balanced_if t.ends t.passed t.want h.balanced passes;
     put =
@@ -220,6 +252,7 @@ module _ (unread : List ℕ) (answers : List (List ℕ)) (bytes : List ℕ) (ent
         (next_answers entries t.passed t.want replies h.balanced passes) h.put;
     shut = λ e. cc;
     none = λ e. ap kept_of (none e);
+    few = less-waits bytes unread t.rest false less h.few;
   }
 
   unchanged : (shut : Bool) (out : Option Bool) (overflowed : Bool) → Holds (at shut out overflowed) → Holds (record (at shut out overflowed) { entries = entries ++ [] })
@@ -229,7 +262,7 @@ module _ (unread : List ℕ) (answers : List (List ℕ)) (bytes : List ℕ) (ent
   next_holds true out overflowed h = unchanged true out overflowed h
   next_holds false (Some keep) overflowed h = unchanged false (Some keep) overflowed h
   next_holds false None true h = let e : false ≡ true = h.shut refl in absurd (cc)
-  next_holds false None false h = let right = taking-right unread in next_taken (taking unread) right.0 right.1 (taking-splits unread) h
+  next_holds false None false h = let right = taking-right unread in next_taken (taking unread) right.0 right.1 (taking-splits unread) (taking-shortens unread) h
 
   -- ---- an answer
 
@@ -253,6 +286,7 @@ module _ (unread : List ℕ) (answers : List (List ℕ)) (bytes : List ℕ) (ent
     put = reply_put true a h.balanced h.put;
     shut = λ e. cc;
     none = λ e. refl;
+    few = h.few;
   }
   reply_holds false (Some false) false a h = record {
     reads = ([], ap requests (sym (append-nil bytes)) ∙ h.reads []);
@@ -260,6 +294,7 @@ module _ (unread : List ℕ) (answers : List (List ℕ)) (bytes : List ℕ) (ent
     put = reply_put false a h.balanced h.put;
     shut = λ e. cc;
     none = λ e. refl;
+    few = none-wait bytes unread false h.few;
   }
 
   -- ---- the caller is out of memory
@@ -279,6 +314,7 @@ module _ (unread : List ℕ) (answers : List (List ℕ)) (bytes : List ℕ) (ent
     put = h.put;
     shut = λ e. refl;
     none = λ e. refl;
+    few = none-wait bytes unread overflowed h.few;
   }
 
   -- ---- bytes are sent
@@ -290,9 +326,10 @@ module _ (unread : List ℕ) (answers : List (List ℕ)) (bytes : List ℕ) (ent
     put = put_sent n gone answers (conversation overflowed entries replies) h.put;
     shut = h.shut;
     none = h.none;
+    few = h.few;
   }
 
-call_holds : (p : Past) (c : Call) → Holds p → Holds (called p c)
+pub call_holds : (p : Past) (c : Call) → Holds p → Holds (called p c)
 call_holds p (Feed piece) h =
     feed_holds p.session.unread p.session.answers p.fed p.entries p.replies p.gone p.session.shut p.session.out p.overflowed piece h
 call_holds p Next h = next_holds p.session.unread p.session.answers p.fed p.entries p.replies p.gone p.session.shut p.session.out p.overflowed h
@@ -312,8 +349,22 @@ reads_first : (shut : Bool) (out : Option Bool) (bytes : List ℕ) (entries : Li
 reads_first true out bytes entries unread r = r
 reads_first false out bytes entries unread r = (_, ap requests (sym (append-nil bytes)) ∙ r [])
 
+-- and those after them are in the bytes that weren't taken
+reads_rest : (shut : Bool) (out : Option Bool) (bytes : List ℕ) (entries : List Entry) (unread : List ℕ) → ReadsOn shut out bytes entries unread → shut ≡ false → out ≡ None
+    → requests bytes ≡ entries ++ requests unread
+reads_rest true out bytes entries unread r unshut free = absurd (cc (unshut))
+reads_rest false (Some keep) bytes entries unread r unshut free = absurd (cc (free))
+reads_rest false None bytes entries unread r unshut free =
+    ap requests (sym (append-nil bytes)) ∙ r [] ∙ ap (λ l. entries ++ requests l) (append-nil unread)
+
 pub is_talk : (calls : List Call) → IsTalk (past calls)
 is_talk calls =
     let h = all_hold before_any calls holds_first in
     let p = past calls in
-    record { first = reads_first p.session.shut p.session.out p.fed p.entries p.session.unread h.reads; answers = h.put.joined; unsent = h.put.left }
+    record {
+      first = reads_first p.session.shut p.session.out p.fed p.entries p.session.unread h.reads;
+      answers = h.put.joined;
+      unsent = h.put.left;
+      many = h.few.many;
+      rest = reads_rest p.session.shut p.session.out p.fed p.entries p.session.unread h.reads;
+    }

@@ -1,5 +1,5 @@
 -- What is taken from the front of some bytes, among their requests.
-use Rattle.std.proofs.Common.{◌≡◌, ℕ, zero, suc, ◌+◌, ◌<◌, ◌≤◌, List, [], ◌∷◌, ◌++◌, Bool, true, false, Option, Some, None, refl, ap, ◌∙◌, sym, arith, drop, length}
+use Rattle.std.proofs.Common.{◌≡◌, ℕ, zero, suc, ◌+◌, ◌<◌, ◌≤◌, List, [], ◌∷◌, ◌++◌, Bool, true, false, Option, Some, None, refl, ap, ◌∙◌, sym, arith, drop, length, length-drop}
 use Rattle.std.specs.Prelude.{Result, Ok, Err, if◌then◌else◌}
 use Rattle.std.proofs.lemmas.List.{nil_from_length}
 use Rattle.ll_directive.specs.Targets.{WantValue}
@@ -124,3 +124,28 @@ right_in (suc n) bytes = right_by (taking_in n) bytes (head_of bytes) (right_in 
 pub taking-right : (bytes : List ℕ) → IsRight (taking bytes)
 unfolding taking
 taking-right bytes = right_in (length bytes) bytes
+
+-- ---- what is left is no longer
+
+abbrev Shortens : Taking → List ℕ → Type 0
+Shortens t bytes = length t.rest ≤ length bytes
+
+shortens_request : (w : Result WantValue TargetFault) (keep : Bool) (later : List ℕ → Taking) (rest bytes : List ℕ) → length rest ≤ length bytes
+    → Shortens (later rest) rest → Shortens (take_request w keep later rest) bytes
+shortens_request (Ok want) keep later rest bytes less ih = less
+shortens_request (Err fault) true later rest bytes less ih = omega (arith, less, ih)
+shortens_request (Err fault) false later rest bytes less ih = omega arith
+
+shortens_by : (later : List ℕ → Taking) (bytes : List ℕ) (f : HeadValue) → ((rest : List ℕ) → Shortens (later rest) rest) → Shortens (taking_by later bytes f) bytes
+shortens_by later bytes Unfinished ih = omega arith
+shortens_by later bytes (Fault fault) ih = omega arith
+shortens_by later bytes (Whole r) ih =
+    shortens_request (wanted r.target) r.keep later (drop r.len bytes) bytes (omega (arith, length-drop r.len bytes)) (ih (drop r.len bytes))
+
+shortens_in : (n : ℕ) (bytes : List ℕ) → Shortens (taking_in n bytes) bytes
+shortens_in zero bytes = omega arith
+shortens_in (suc n) bytes = shortens_by (taking_in n) bytes (head_of bytes) (shortens_in n)
+
+pub taking-shortens : (bytes : List ℕ) → Shortens (taking bytes) bytes
+unfolding taking
+taking-shortens bytes = shortens_in (length bytes) bytes

@@ -1,10 +1,10 @@
 -- All calls of a session, and what they result in.
-use Rattle.std.specs.Prelude.{◌≡◌, ℕ, List, [], ◌∷◌, ◌++◌, Bool, true, false, ◌||◌, Option, Some, None, nat_lt, length, take, fold, if◌then◌else◌}
-use Rattle.std.specs.List.{concat}
+use Rattle.std.specs.Prelude.{◌≡◌, ◌≢◌, ◌⊎◌, ℕ, List, [], ◌∷◌, ◌++◌, Bool, true, false, ◌||◌, Option, Some, None, ◌<◌, nat_lt, length, take, fold, if◌then◌else◌}
+use Rattle.std.specs.List.{All, concat}
 use Rattle.ll_wire.specs.Response.{response_bytes}
 use Rattle.ll_wire.specs.declared.answer.Answer.{Answer}
 use Rattle.ll_wire.specs.declared.answer.Answer.TheVariants as answer
-use Rattle.ll_session.specs.Requests.{Entry, Wanted, Refused, Faulty, requests}
+use Rattle.ll_session.specs.Requests.{Entry, Wanted, Refused, Faulty, keeps, requests}
 use Rattle.ll_session.specs.Output.{unsent}
 use Rattle.ll_session.specs.Talk.{SessionValue, fresh, fed, muted, pulled, replied, sent, taking, entries_of, overflow, most_waiting}
 
@@ -86,3 +86,25 @@ pub record IsTalk (p : Past) : Type 0 where
   pub answers : p.gone ++ concat p.session.answers ≡ concat (conversation p.overflowed p.entries p.replies)
   -- the answers that aren't sent are the last of these
   pub unsent : p.session.answers ≡ unsent (length p.gone) (conversation p.overflowed p.entries p.replies)
+  -- more bytes came than may wait, if too many did
+  pub many : p.overflowed ≡ true → most_waiting < length p.fed
+  -- the requests after these are those in the bytes that weren't taken, if no want is out and the session hasn't shut
+  pub rest : p.session.shut ≡ false → p.session.out ≡ None → requests p.fed ≡ p.entries ++ requests p.session.unread
+
+-- ---- a session that is never muted
+
+abbrev pub AreUnmuted : List Call → Type 0
+AreUnmuted calls = All (λ c. c ≢ Mute) calls
+
+-- the connection isn't kept after the last of the entries, which are all requests in the bytes
+pub record IsLastOf (bytes : List ℕ) (entries : List Entry) : Type 0 where
+  pub first : List Entry
+  pub last : Entry
+  pub is : entries ≡ first ++ last ∷ []
+  pub ends : keeps last ≡ false
+  pub all : requests bytes ≡ entries
+
+-- why it has shut: too many bytes came while a want was out; or a head was refused, or a request was answered that doesn't keep the connection, and
+-- nothing after it is a request (rule 29)
+abbrev pub HasShut : Past → Type 0
+HasShut p = (p.overflowed ≡ true) ⊎ IsLastOf p.fed p.entries

@@ -1,5 +1,5 @@
 -- The requests in a connection's bytes.
-use Rattle.std.specs.Prelude.{ℕ, zero, suc, List, [], ◌∷◌, Bool, Result, Ok, Err, length, drop, if◌then◌else◌}
+use Rattle.std.specs.Prelude.{ℕ, zero, suc, List, [], ◌∷◌, Bool, false, Result, Ok, Err, length, drop, if◌then◌else◌}
 use Rattle.ll_directive.specs.Targets.{WantValue, want_in}
 use Rattle.ll_directive.specs.declared.fault.TargetFault.{TargetFault}
 use Rattle.ll_wire.specs.Heads.{RequestValue, HeadValue, Unfinished, Whole, Fault, head_of}
@@ -13,6 +13,12 @@ pub data Entry : Type 0 where
   Refused : TargetFault → Bool → Entry
   -- a head that is refused: nothing after it is a request
   Faulty : HeadFault → Entry
+
+-- whether the connection is kept after it
+abbrev pub keeps : Entry → Bool
+keeps (Wanted want keep) = keep
+keeps (Refused fault keep) = keep
+keeps (Faulty fault) = false
 
 -- what a target wants, or its first fault
 unfoldable pub wanted : List ℕ → Result WantValue TargetFault
