@@ -17,37 +17,37 @@ SETTINGS = ['listen 127.0.0.1:0', 'publish 127.0.0.1:0', 'workers 4', CAM]
 
 # Words of a command, and what has to be said of them.
 USES = [
-    ([], 'usage: llhls COMMAND'), (['bogus'], '`bogus` is no command'), (['serve'], 'usage: llhls serve SETTINGS'), (['check', 'a', 'b'], 'usage: llhls check RECORD'),
-    (['explain', 'record', '0'], 'counted from 1'), (['explain', 'record', '01'], 'usage: llhls explain'), (['apply', 'one'], 'usage: llhls apply BASE DELTA'),
-    (['replay', 'script'], 'usage: llhls replay'), (['version', 'x'], 'usage: llhls version'), (['multivariant', 'record'], 'NAME=INIT'),
+    ([], 'usage: llhls COMMAND'), (['bogus'], '`bogus` is no command'), (['serve'], 'SETTINGS is missing'), (['check', 'a', 'b'], '`b` is a word too many'),
+    (['explain', 'record', '0'], '`0` is no entry\'s number'), (['explain', 'record', '01'], '`01` is no entry\'s number'), (['apply', 'one'], 'DELTA is missing'),
+    (['replay', 'script'], '`script` is a word too many'), (['version', 'x'], '`x` is a word too many'), (['multivariant', 'record'], 'NAME=INIT is missing'),
     (['multivariant', '/dev/null', 'hi'], '`hi` has no `=`'), (['bogus', '--help'], '`bogus` is no command'), (['help', 'bogus'], 'usage: llhls COMMAND'),
-    (['push'], 'ADDRESS[,ADDRESS ..] is missing'), (PUSH[:2], 'CHANNEL is missing'), (PUSH[:3], 'RENDITION is missing'), (PUSH[:4], 'part=US is missing'),
-    (PUSH[:5], 'segment=US is missing'), ([*PUSH[:2], 'CAM', *PUSH[3:]], '`CAM` is no name'), ([*PUSH[:3], '1080P', *PUSH[4:]], '`1080P` is no name'),
-    ([*PUSH[:4], 'part=0.5', PUSH[5]], '`part=0.5`'), ([*PUSH[:5], 'segmen=2'], '`segmen=2`'), ([*PUSH[:4], 'part=0', PUSH[5]], 'part= has to be more than 0'),
-    ([*PUSH, 'most=1'], 'most= no less than part='), ([*PUSH, 'retry=x'], '`retry=x`'), ([*PUSH, 'keep=1', 'retry=1'], '`retry=1` is no option, or stands too late'),
-    ([*PUSH, 'tls'], '`tls` is no option'), ([*PUSH, 'secret='], '`secret=` is no option'), ([PUSH[0], '127.0.0.1', *PUSH[2:]], '`127.0.0.1` is no address'),
+    (['push'], 'ADDRESS is missing'), (PUSH[:2], 'CHANNEL is missing'), (PUSH[:3], 'RENDITION is missing'), (PUSH[:4], 'part= is missing'),
+    (PUSH[:5], 'segment= is missing'), ([*PUSH[:2], 'CAM', *PUSH[3:]], '`CAM` is no name'), ([*PUSH[:3], '1080P', *PUSH[4:]], '`1080P` is no name'),
+    ([*PUSH[:4], 'part=0.5', PUSH[5]], '`part=0.5`'), ([*PUSH[:5], 'segmen=2'], '`segmen=2`'), ([*PUSH[:4], 'part=0', PUSH[5]], '`part=0`'),
+    ([*PUSH, 'most=1'], '`most=` is less than `part=`'), ([*PUSH, 'retry=x'], '`retry=x`'), ([*PUSH, 'keep=1', 'retry=1'], '`retry=1` stands after `keep=1`'),
+    ([*PUSH, 'tls'], '`tls` is no option'), ([*PUSH, 'secret='], '`secret=` has no file\'s name'), ([PUSH[0], '127.0.0.1', *PUSH[2:]], '`127.0.0.1` is no address with a port'),
     ([PUSH[0], f'{AT},{AT}', *PUSH[2:]], f'`{AT}` stands twice'), ([PUSH[0], 'a:1,b:1,c:1,d:1,e:1', *PUSH[2:]], 'more than four addresses'),
 ]
 
 # Lines of settings in place of one, by its number; the number of the line that is refused; and what has to be said of it.
 REFUSED = [
-    (1, ['listen localhost:8080'], 1, 'listen: `localhost:8080` isn\'t an IP address'), (1, ['listen 127.0.0.1'], 1, '`127.0.0.1` isn\'t'), (1, ['listen 127.0.0.1:0 '], 1, '`127.0.0.1:0 ` isn\'t'),
-    (1, ['# players', SETTINGS[0]], 1, 'a comment'), (1, ['\ufeff' + SETTINGS[0]], 1, 'byte order mark'), (2, [], 2, '`workers` stands here, and this line has to be `publish`'),
-    (2, ['publish unix:'], 2, 'publish: `unix:` isn\'t'), (3, ['workers 0'], 3, 'workers: `0` isn\'t a number from 1 to 4096'), (3, ['workers 4097'], 3, '`4097`'),
-    (3, [SETTINGS[2], ''], 4, 'the line is empty'), (3, [SETTINGS[2], 'tls on'], 4, '`tls` begins no line'), (3, [SETTINGS[2], 'record '], 4, 'record: `` isn\'t a path'),
-    (3, [SETTINGS[2], 'log l', 'log l'], 5, '`log` stands too late or twice'), (3, [SETTINGS[2], 'idle 9', 'log l'], 5, '`log` stands too late or twice'),
-    (3, [SETTINGS[2], 'status here:1'], 4, 'status: `here:1` isn\'t'), (3, [SETTINGS[2], 'idle 0'], 4, 'idle: `0` isn\'t a number of seconds from 1 to 86400'),
-    (3, [SETTINGS[2], 'secret 00'], 4, 'has to follow its channel'), (4, [CAM, 'secret 1234'], 5, 'secret: `1234` isn\'t the SHA-256'), (4, [], 4, 'the file ends here'),
-    (4, [CAM, CAM], 5, 'an earlier channel is called `cam` too'), (4, [CAM.replace('cam', 'c\udcff')], 4, 'isn\'t UTF-8'),
+    (1, ['listen localhost:8080'], 1, 'listen: `localhost:8080` isn\'t an IP address'), (1, ['listen 127.0.0.1'], 1, '`127.0.0.1` has no port'), (1, ['listen 127.0.0.1:0 '], 1, 'a space stands at the end'),
+    (1, ['# players', SETTINGS[0]], 1, 'a comment'), (1, ['\ufeff' + SETTINGS[0]], 1, 'byte order mark'), (2, [], 2, 'begins with `workers`, and has to be `publish`'),
+    (2, ['publish unix:'], 2, 'no path stands after `unix:`'), (3, ['workers 0'], 3, 'workers: `0` isn\'t a number from 1 to 4096'), (3, ['workers 4097'], 3, '`4097`'),
+    (3, [SETTINGS[2], ''], 4, 'the line is empty'), (3, [SETTINGS[2], 'tls on'], 4, '`tls` is no word of a settings file'), (3, [SETTINGS[2], 'record '], 4, 'nothing stands after `record`'),
+    (3, [SETTINGS[2], 'log l', 'log l'], 5, '`log` stands in an earlier line too'), (3, [SETTINGS[2], 'idle 9', 'log l'], 5, '`log` stands after `idle`'),
+    (3, [SETTINGS[2], 'status here:1'], 4, 'status: `here:1` isn\'t an IP address'), (3, [SETTINGS[2], 'idle 0'], 4, 'idle: `0` isn\'t a number of seconds from 1 to 86400'),
+    (3, [SETTINGS[2], 'secret 00'], 4, '`secret` stands before any channel'), (4, [CAM, 'secret 1234'], 5, 'secret: `1234` isn\'t the SHA-256'), (4, [], 4, 'the file ends here'),
+    (4, [CAM, CAM], 5, 'an earlier channel is called `cam` too'), (4, [CAM.replace('cam', 'c\udcff')], 4, 'byte 10 of the line isn\'t UTF-8'),
     *((4, [re.sub(*change, CAM)], 4, said) for change, said in (
         (('target=4', 'target=0'), 'BadTarget: target=0 is outside 1 to 60'), (('target=4', 'target=61'), 'BadTarget: target=61'),
         (('part=1000000', 'part=500'), 'BadPartTarget: part=500 is outside 10000 to 4000000'), (('part=1000000', 'part=4000001'), 'BadPartTarget: part=4000001'),
         (('skip=24', 'skip=23'), 'SkipTooSmall: skip=23 is below 24'), (('window=36', 'window=35'), 'WindowTooSmall: window=35 is below 36'),
-        (('window=36', 'window=86401'), 'WindowTooSmall: window=86401 is above 86400'), (('hi,lo', 'hi,1080P'), 'BadName: `1080P`'), (('hi,lo', 'hi,lo,hi'), 'BadName: `hi`'),
-        (('hi,lo', 'a,b,c,d,e,f,g,h,i'), 'NoRendition: renditions= has 9 names'), (('first=0', f'first={2 ** 60 + 1}'), f'BadStart: first={2 ** 60 + 1}'),
-        (('start=0', 'start=253402300800000'), 'BadStart: start=253402300800000'), ((' start=0', ''), 'ends before its word `start=`'),
-        (('window=', 'windw='), '`windw=36` stands where the word `window='), (('skip=24', 'skip=24s'), '`skip=24s`'), ((' skip', '  skip'), 'a second space'),
-        (('start=0', 'start=0 maps=no'), '`maps=no` stands after'), (('start=0', 'start=0 '), 'a space stands at the end'), ((' cam ', ' CAM '), '`CAM` is no channel'))),
+        (('window=36', 'window=86401'), 'window=86401 is above 86400'), (('hi,lo', 'hi,1080P'), 'BadName: `1080P`'), (('hi,lo', 'hi,lo,hi'), 'BadName: `hi` stands twice'),
+        (('hi,lo', 'a,b,c,d,e,f,g,h,i'), 'renditions= has 9 names'), (('first=0', f'first={2 ** 60 + 1}'), f'first={2 ** 60 + 1} is above'),
+        (('start=0', 'start=253402300800000'), 'BadStart: start=253402300800000'), ((' start=0', ''), 'ends before `start=`'),
+        (('window=', 'windw='), '`windw=36` stands where `window=` and a whole number of seconds'), (('skip=24', 'skip=24s'), '`skip=24s`'), ((' skip', '  skip'), 'a second space'),
+        (('start=0', 'start=0 maps=no'), '`maps=no` is a word too many'), (('start=0', 'start=0 '), 'a space stands at the end'), ((' cam ', ' CAM '), '`CAM` is no channel'))),
 ]
 
 # What begins an input that is no MP4.

@@ -6,6 +6,15 @@ use ll_push::PushFault;
 use ll_replay::RunFault;
 use std::fmt;
 
+/// What is said if standard output takes no more.
+const WRITE: &str = "Standard output took no more: its disk is full, or its reader has ended.";
+
+/// What is said if out of memory.
+const MEMORY: &str = "The system has no more memory for the program.";
+
+/// What is said of the clock.
+const CLOCK: &str = "The system's clock couldn't be read, or shows a time before 1970.";
+
 /// What a fault means: lines that are indented by two spaces, or none if its cause says it all.
 #[derive(Clone, Copy)]
 pub(crate) struct Advice(pub(crate) Fault);
@@ -30,8 +39,8 @@ fn advice_of(fault: Fault) -> &'static str {
         Fault::Changed => {
             "The record was right, and wasn't when it was read again: something writes to it, or it is a pipe, which can be read only once."
         }
-        Fault::Write => "Standard output took no more: its disk is full, or its reader has ended.",
-        Fault::Memory => "The system has no more memory for the program.",
+        Fault::Write => WRITE,
+        Fault::Memory => MEMORY,
         Fault::BadLine(_) => "FORMATS.md, \"Settings file\", has each line's form.",
         Fault::NoEntry => "`llhls check FILE` says how many entries a record has.",
         Fault::NoRendition(_) => "The record's channel has no rendition of that name.",
@@ -42,7 +51,7 @@ fn advice_of(fault: Fault) -> &'static str {
             "That rendition has no finished segment in the record, from which its rates could be computed."
         }
         Fault::TooLarge => "A rate of the Multivariant Playlist is above 2^64.",
-        Fault::Clock => "The system's clock couldn't be read, or shows a time before 1970.",
+        Fault::Clock => CLOCK,
         Fault::Replay(fault) => replay_advice(fault),
         Fault::Apply(fault) => apply_advice(fault),
         Fault::Push(fault) => push_advice(fault),
@@ -57,9 +66,9 @@ fn replay_advice(fault: RunFault) -> &'static str {
         }
         RunFault::LineTooLong { .. } => "A line of a script has at most 65,536 bytes.",
         RunFault::Read => "The script couldn't be read from standard input.",
-        RunFault::Write => advice_of(Fault::Write),
+        RunFault::Write => WRITE,
         RunFault::Endless => "The script didn't end within 2^32 reads.",
-        RunFault::Memory => advice_of(Fault::Memory),
+        RunFault::Memory => MEMORY,
     }
 }
 
@@ -74,7 +83,7 @@ fn apply_advice(fault: ApplyFault) -> &'static str {
         ApplyFault::NotRecent { .. } => {
             "The Playlist Delta Update skips the segment of this number, which the first file lacks: it applies to a later playlist."
         }
-        ApplyFault::Memory => advice_of(Fault::Memory),
+        ApplyFault::Memory => MEMORY,
     }
 }
 
@@ -83,7 +92,7 @@ fn push_advice(fault: PushFault) -> &'static str {
     match fault {
         PushFault::Input(_) => "",
         PushFault::Read => "The encoder's output couldn't be read from standard input.",
-        PushFault::Clock => advice_of(Fault::Clock),
+        PushFault::Clock => CLOCK,
         PushFault::Connect => {
             "Is the server up, and is this where it listens for publishers (`publish` in its settings)? PUSH.md, \"Connections\"."
         }
@@ -93,7 +102,7 @@ fn push_advice(fault: PushFault) -> &'static str {
         PushFault::BadAnswer => {
             "What answers is no server's port for publishers; `publish` in the server's settings says which that is."
         }
-        PushFault::Memory => advice_of(Fault::Memory),
+        PushFault::Memory => MEMORY,
         PushFault::Endless => "There were 2^64 - 1 reads, messages or connections, and no end.",
     }
 }

@@ -111,46 +111,74 @@ impl<'a> Values<'a> {
         self.target.saturating_mul(count)
     }
 
-    /// Returns the first of the renditions' names that is none, or that stands a second time.
-    fn wrong_name(&self) -> &'a str {
+    /// Returns the first of the renditions' names that is none.
+    fn wrong_name(&self) -> Option<&'a str> {
+        self.renditions.split(',').find(|name| !is_name(name))
+    }
+
+    /// Returns the first of the renditions' names that stands a second time.
+    fn second_name(&self) -> &'a str {
         for (place, name) in self.renditions.split(',').enumerate() {
-            let mut before = self.renditions.split(',').take(place);
-            if !is_name(name) || before.any(|other| other == name) {
+            if self
+                .renditions
+                .split(',')
+                .take(place)
+                .any(|other| other == name)
+            {
                 return name;
             }
         }
-        self.renditions
+        ""
     }
 }
 
 impl fmt::Display for ChannelReason<'_> {
     fn fmt<W: fmt::Write>(&self, f: &mut fmt::Formatter<W>) -> fmt::Result {
         match self {
-            ChannelReason::Missing(key) => write!(f, "the line ends before its word `{key}`"),
+            ChannelReason::Missing(key) => {
+                write!(f, "the line ends before `{key}` and {}", form_of(key))
+            }
             ChannelReason::Instead(key, "") => write!(
                 f,
-                "a second space stands where the word `{key}` has to be: one space separates two words"
+                "a second space stands where `{key}` has to be: one space separates two words"
             ),
             ChannelReason::Instead(key, word) => write!(
                 f,
-                "`{word}` stands where the word `{key}` has to be: the words' order is fixed"
+                "`{word}` stands where `{key}` and {} have to be",
+                form_of(key)
             ),
-            ChannelReason::NoNumber(key, word) => {
-                write!(
-                    f,
-                    "`{word}`: after `{key}` comes a number of 1 to 20 digits"
-                )
-            }
+            ChannelReason::NoNumber(key, word) => write!(
+                f,
+                "`{word}`: after `{key}` comes {}, in digits alone",
+                form_of(key)
+            ),
             ChannelReason::NoName(name) => write!(
                 f,
-                "`{name}` is no channel's name, which has 1 to 32 of the characters a-z, 0-9, - and _"
+                "`{name}` is no channel's name, which has {NAME}"
             ),
             ChannelReason::Further("") => f.write_str("a space stands at the end of the line"),
             ChannelReason::Further(word) => {
-                write!(f, "`{word}` stands after the line's last word, `start=`")
+                write!(
+                    f,
+                    "`{word}` is a word too many: a channel's line ends with `start=`"
+                )
             }
             ChannelReason::Limit(fault, values) => write!(f, "{}", Limit(*fault, *values)),
         }
+    }
+}
+
+/// What a name has.
+const NAME: &str = "1 to 32 of the characters a-z, 0-9, - and _";
+
+/// Returns what comes after `key`.
+fn form_of(key: &str) -> &'static str {
+    match key {
+        "target=" | "skip=" | "window=" => "a whole number of seconds",
+        "part=" => "a whole number of microseconds",
+        "renditions=" => "names with commas between them",
+        "first=" => "the Media Sequence Number of the first segment",
+        _ => "the milliseconds since 1970 of the first part",
     }
 }
 
@@ -179,32 +207,31 @@ impl fmt::Display for Limit<'_> {
                 v.targets(6)
             ),
             SettingsFault::WindowTooSmall if window > 86_400 => {
-                write!(
-                    f,
-                    "WindowTooSmall: window={window} is above 86400, a day in seconds"
-                )
+                write!(f, "window={window} is above 86400, a day in seconds")
             }
             SettingsFault::WindowTooSmall => write!(
                 f,
                 "WindowTooSmall: window={window} is below {}, which skip={skip} and three target durations of {target} s need",
                 skip.saturating_add(v.targets(3))
             ),
-            SettingsFault::BadName => write!(
-                f,
-                "BadName: `{}` in renditions= is no name of 1 to 32 of the characters a-z, 0-9, - and _, or stands there twice",
-                v.wrong_name()
-            ),
+            SettingsFault::BadName => match v.wrong_name() {
+                Some(name) => write!(
+                    f,
+                    "BadName: `{name}` in renditions= is no rendition's name, which has {NAME}"
+                ),
+                None => write!(
+                    f,
+                    "BadName: `{}` stands twice in renditions=",
+                    v.second_name()
+                ),
+            },
             SettingsFault::NoRendition => write!(
                 f,
-                "NoRendition: renditions= has {} names, and a channel has 1 to 8 renditions",
+                "renditions= has {} names, and a channel has 1 to 8 renditions",
                 v.renditions.split(',').count()
             ),
             SettingsFault::BadStart if v.first > 1 << 60 => {
-                write!(
-                    f,
-                    "BadStart: first={} is above 1152921504606846976, 2^60",
-                    v.first
-                )
+                write!(f, "first={} is above 1152921504606846976, 2^60", v.first)
             }
             SettingsFault::BadStart => write!(
                 f,

@@ -78,6 +78,19 @@ impl Keyword {
         }
     }
 
+    /// Returns whether what follows it ends before a space at the line's end: it is no path.
+    pub(crate) fn has_fixed_form(self) -> bool {
+        !matches!(
+            self,
+            Keyword::Publish | Keyword::Record | Keyword::Log | Keyword::Spool
+        )
+    }
+
+    /// Returns whether it is followed by an address with a port.
+    pub(crate) fn has_port(self) -> bool {
+        matches!(self, Keyword::Listen | Keyword::Publish | Keyword::Status)
+    }
+
     /// Returns what stands after the word and a space.
     pub(crate) fn value(self) -> &'static str {
         match self {
@@ -92,7 +105,7 @@ impl Keyword {
             Keyword::Spool => "the path of a directory",
             Keyword::Idle => "a number of seconds from 1 to 86400",
             Keyword::Channel =>
-                "a name, and then target= part= skip= window= renditions= first= start=",
+                "a name, and then target=S part=US skip=S window=S renditions=NAME,.. first=N start=MS (seconds, microseconds, and milliseconds since 1970)",
             Keyword::Secret => "the SHA-256 of the channel's secret, in 64 hexadecimal digits",
         }
     }

@@ -9,9 +9,11 @@ mod keyword;
 mod push_words;
 mod refusal;
 mod settings;
+mod words;
 
 pub use beginning::Beginning;
 pub use failure::Failure;
 pub use push_words::PushReason;
 pub use refusal::RefusalAdvice;
 pub use settings::SettingsReason;
+pub use words::WordsReason;

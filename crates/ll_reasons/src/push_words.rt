@@ -7,16 +7,22 @@ use std::fmt;
 /// Why the words after `push` are wrong: the first of them that is, if one is wrong by itself.
 #[derive(Clone, Copy)]
 pub enum PushReason<'a> {
-    /// The words end before this one.
+    /// The words end before this one, which is followed by what it is.
     Missing(&'static str),
     /// This is no name of a channel or a rendition.
     NoName(&'a str),
     /// A word that begins with the first of these, and a number after it, is expected where the second stands.
     NoNumber(&'static str, &'a str),
-    /// This is no option, or it stands after one that has to follow it.
+    /// The word `secret=` has no file's name after it.
+    NoFile,
+    /// This is no option.
     NoOption(&'a str),
-    /// The words are right each by itself: `part=` is 0, or `most=` is less than `part=`.
-    Lengths,
+    /// The first of these options stands after the second, which has to follow it, or is the same again.
+    Late(&'a str, &'a str),
+    /// The words are right each by itself, but `part=` is 0.
+    NoPart,
+    /// The words are right each by itself, but `most=` is less than `part=`.
+    Short,
 }
 
 impl<'a> PushReason<'a> {
@@ -25,27 +31,32 @@ impl<'a> PushReason<'a> {
         let [_address, channel, rendition, part, segment, options @ ..] = words else {
             return PushReason::Missing(missing(words.len()));
         };
+        let (part, segment) = (part.as_str(), segment.as_str());
         if let Some(name) = no_name(channel.as_str(), rendition.as_str()) {
-            return PushReason::NoName(name);
+            PushReason::NoName(name)
+        } else if !has_number("part=", part) {
+            PushReason::NoNumber("part=", part)
+        } else if !has_number("segment=", segment) {
+            PushReason::NoNumber("segment=", segment)
+        } else if let Some(reason) = wrong_option(options) {
+            reason
+        } else if part == "part=0" {
+            PushReason::NoPart
+        } else {
+            PushReason::Short
         }
-        if !has_number("part=", part.as_str()) {
-            return PushReason::NoNumber("part=", part.as_str());
-        }
-        if !has_number("segment=", segment.as_str()) {
-            return PushReason::NoNumber("segment=", segment.as_str());
-        }
-        wrong_option(options)
     }
 }
 
 /// Returns which word is missing after the first `count`.
 fn missing(count: usize) -> &'static str {
     match count {
-        0 => "ADDRESS[,ADDRESS ..]",
-        1 => "CHANNEL",
-        2 => "RENDITION",
-        3 => "part=US",
-        _ => "segment=US",
+        0 => "ADDRESS is missing: where a server listens for publishers, as 127.0.0.1:8081",
+        1 => "CHANNEL is missing: the channel's name",
+        2 => "RENDITION is missing: the name of one of the channel's renditions",
+        3 => "part= is missing: the duration of a part in microseconds, as part=500000",
+        _ =>
+            "segment= is missing: the least duration of a segment in microseconds, as segment=2000000",
     }
 }
 
@@ -68,23 +79,29 @@ fn has_number(key: &str, word: &str) -> bool {
     }
 }
 
-/// Returns what is wrong with `options`.
-fn wrong_option(options: &[Text]) -> PushReason<'_> {
-    let mut last = 0;
+/// Returns what is wrong with `options`, if one is wrong by itself, or in its place.
+fn wrong_option(options: &[Text]) -> Option<PushReason<'_>> {
+    let mut last = "";
     for word in options {
         let word = word.as_str();
         let rank = rank_of(word);
-        if rank <= last && !(word.starts_with("secret=") && last == 6) {
-            return PushReason::NoOption(word);
+        if word == "secret=" {
+            return Some(PushReason::NoFile);
+        }
+        if rank == 0 {
+            return Some(PushReason::NoOption(word));
+        }
+        if rank <= rank_of(last) && !(rank == 5 && last == "end") {
+            return Some(PushReason::Late(word, last));
         }
         if let Some(key) = numbered(rank)
             && !has_number(key, word)
         {
-            return PushReason::NoNumber(key, word);
+            return Some(PushReason::NoNumber(key, word));
         }
-        last = rank;
+        last = word;
     }
-    PushReason::Lengths
+    None
 }
 
 /// Returns the place of the option `word` among the options, from 1, or 0 if it is none.
@@ -97,7 +114,7 @@ fn rank_of(word: &str) -> u8 {
         3
     } else if word.starts_with("keep=") {
         4
-    } else if word.starts_with("secret=") && word != "secret=" {
+    } else if word.starts_with("secret=") {
         5
     } else if word == "end" {
         6
@@ -116,25 +133,50 @@ fn numbered(rank: u8) -> Option<&'static str> {
     }
 }
 
+/// Returns what comes after `key`.
+fn form_of(key: &str) -> &'static str {
+    match key {
+        "part=" => "a whole number of microseconds, as part=500000",
+        "segment=" => "a whole number of microseconds, as segment=2000000",
+        "most=" => "a whole number of microseconds, as most=3000000",
+        "retry=" => "a whole number of seconds, as retry=60",
+        _ => "a whole number of bytes, as keep=67108864",
+    }
+}
+
+/// The options, in their order.
+const ORDER: &str = "most= ahead=no retry= keep= secret= end";
+
 impl fmt::Display for PushReason<'_> {
     fn fmt<W: fmt::Write>(&self, f: &mut fmt::Formatter<W>) -> fmt::Result {
         match self {
-            PushReason::Missing(word) => write!(f, "the word {word} is missing"),
+            PushReason::Missing(word) => f.write_str(word),
             PushReason::NoName(name) => write!(
                 f,
                 "`{name}` is no name of a channel or a rendition, which has 1 to 32 of the characters a-z, 0-9, - and _"
             ),
             PushReason::NoNumber(key, word) => write!(
                 f,
-                "`{word}` stands where `{key}` and a number without leading zeros have to be"
+                "`{word}` stands where `{key}` has to be, and after it {}",
+                form_of(key)
             ),
-            PushReason::NoOption(word) => write!(
-                f,
-                "`{word}` is no option, or stands too late or twice: the order is most= ahead=no retry= keep= secret= end"
+            PushReason::NoFile => f.write_str("`secret=` has no file's name after it"),
+            PushReason::NoOption(word) => {
+                write!(
+                    f,
+                    "`{word}` is no option: the options are, in this order, {ORDER}"
+                )
+            }
+            PushReason::Late(word, last) => {
+                write!(
+                    f,
+                    "`{word}` stands after `{last}`: the options' order is {ORDER}, each once"
+                )
+            }
+            PushReason::NoPart => f.write_str(
+                "`part=0`: a part has to last for a microsecond or more",
             ),
-            PushReason::Lengths => f.write_str(
-                "part= has to be more than 0, and most= no less than part=",
-            ),
+            PushReason::Short => f.write_str("`most=` is less than `part=`"),
         }
     }
 }

@@ -280,7 +280,9 @@ fn address_in(alloc: Global, word: &str) -> Result<Address, Failure> {
         Ok(Some(address)) => Ok(address),
         Ok(None) => Err(wrong_usage(
             alloc,
-            format_args!("`{word}` is no address: HOST:PORT, as 127.0.0.1:8081, or unix:PATH"),
+            format_args!(
+                "`{word}` is no address with a port: HOST:PORT, as 127.0.0.1:8081, or unix:PATH"
+            ),
             Topic::Push,
         )),
         Err(AllocError) => Err(Failure::from(Fault::Memory)),

@@ -1,7 +1,7 @@
 //! What is said of a command that fails, beside its fault.
 use ll_attr::Text;
 use ll_command::{Fault, Topic, fault_of};
-use ll_reasons::{Failure, PushReason};
+use ll_reasons::{Failure, PushReason, WordsReason};
 use std::alloc::Global;
 use std::fmt::Display;
 use std::io;
@@ -19,7 +19,7 @@ pub(crate) fn misused(alloc: Global, fault: Fault, words: &[Text]) -> Failure {
     };
     match Topic::named(name.as_str()) {
         Some(Topic::Push) => wrong_usage(alloc, PushReason::of(rest), Topic::Push),
-        Some(topic) => Failure::new(alloc, fault, topic.usage()),
+        Some(topic) => wrong_usage(alloc, WordsReason::of(topic, rest), topic),
         None => wrong_usage(
             alloc,
             format_args!("`{name}` is no command"),
