@@ -62,7 +62,7 @@ expect_none() {
 
 # is_clean: returns whether no folder of a build is left, and no process of one.
 is_clean() {
-    [ -z "$(ls -A "$room/tmp")" ] && [ "$(ls -A "$made" | grep -vxE 'llhls|lock|of')" = '' ] && ! pgrep -f "$room/tmp/.*/settings" >/dev/null
+    [ -z "$(ls -A "$room/tmp")" ] && [ "$(ls -A "$made" | grep -vxE 'llhls|lock|of')" = '' ] && ! pgrep -f "$room/.*/settings" >/dev/null
 }
 
 quick
