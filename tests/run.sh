@@ -41,12 +41,15 @@ serve_held() {
 
 program=${LLHLS:-$("$lib/quick.sh")} || exit 1
 take_program "$program"
+echo 'A script publishes a part of the rendition hi, and asks for the playlists of hi and of lo, which has no part yet:'
 echo '$ llhls replay < examples/first.script'
 if timeout 60 "$program" replay <"$examples/first.script" 2>"$room/said" | tee "$room/written" && cmp "$room/written" "$examples/first.expected"; then
     pass
 else
     fail "replay: $(tail -n 5 "$room/said")"
 fi
+echo
+echo 'A server over HTTP, with a player who asks for the part that comes next:'
 start_server
 serve_held
 # The playlist follows the answers to the script's lines.
@@ -55,5 +58,6 @@ if sed '1,/^$/d' "$room/answer" | cmp - <(sed '1,/^reply /d' "$examples/held.exp
 else
     fail "it isn't the playlist of examples/held.expected, or the server has ended: $(tail -n 5 "$log")"
 fi
-echo "This program isn't proved: make build proves it, and make test proves and tests everything."
+echo
+echo "Both have to be as in examples. This program isn't proved: make build proves it, and make test proves and tests everything."
 told_all
