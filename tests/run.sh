@@ -59,5 +59,5 @@ else
     fail "it isn't the playlist of examples/held.expected, or the server has ended: $(tail -n 5 "$log")"
 fi
 echo
-echo "Both have to be as in examples. This program isn't proved: make build proves it, and make test proves and tests everything."
+echo "Each output was compared with its file in examples. This program isn't proved: make build proves it, make test proves and tests everything."
 told_all
