@@ -23,7 +23,8 @@ for answer in "$here"/check/*.stdout; do
     "$program" upgrade "$record" >"$room/upgraded" 2>"$room/stderr"
     status=$?
     read -r verdict _ <"$answer"
-    if [ -s "$room/stderr" ]; then
+    # (of an empty record it is said that nothing was written yet)
+    if ! all_of "$room/stderr" || { [ -s "$record" ] && [ -n "$said" ]; } || ! is_said ''; then
         fail "${record##*/}: $(<"$room/stderr")"
     elif [ "$verdict" = ok ] && [ "$status" = 0 ] && is_upgrade "$record" "$(<"$answer")" "$room/upgraded"; then
         pass
