@@ -133,7 +133,7 @@ main() {
     if ! is_kept "$sum" "$kit"; then
         [ -n "$kit" ] || give_up 'rt, the command of the Rattle kit, is not on the path, and builds the program: README.md, "The kit"'
         began=$SECONDS
-        say "builds the program from the sources, unproved, with checks, in build/quick: once, in some 100 s on an idle machine"
+        say "builds the program from the sources, unproved, with checks, in build/quick: once, in some two minutes on an idle machine"
         room=$(mktemp -d) || give_up 'no folder can be made'
         copy_sources "$kit"
         rt=$(realpath "$(command -v rt)")
