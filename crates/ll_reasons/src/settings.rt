@@ -24,6 +24,8 @@ pub enum SettingsReason<'a> {
     Instead(Keyword, &'a str),
     /// The line begins with this word, which is no keyword.
     Unknown(&'a str),
+    /// Something else than a space follows `secret`, so what the line shows may be the secret.
+    Unspaced,
     /// An earlier line has the same keyword.
     Twice(Keyword),
     /// The line of the first keyword stands after one of the second, which has to follow it.
@@ -79,6 +81,8 @@ fn unknown(line: &str) -> SettingsReason<'_> {
         SettingsReason::Comment
     } else if line.starts_with('\u{feff}') {
         SettingsReason::Mark
+    } else if line.starts_with("secret") {
+        SettingsReason::Unspaced
     } else {
         SettingsReason::Unknown(first_word(line))
     }
@@ -229,6 +233,7 @@ impl SettingsReason<'_> {
             }
             SettingsReason::Blank => "the line is empty: a settings file has no empty lines",
             SettingsReason::Comment => "the line is a comment: a settings file has none",
+            SettingsReason::Unspaced => "one space has to follow `secret`",
             SettingsReason::Space => "a space stands at the end of the line",
             SettingsReason::Many => "1024 channels stand before this one, and a file has no more",
             SettingsReason::Early => {
@@ -240,7 +245,7 @@ impl SettingsReason<'_> {
     }
 }
 
-/// A keyword, and what follows it, which isn't what it needs.
+/// A keyword, and what follows it, which isn't what it needs. What follows `secret` isn't shown.
 #[derive(Clone, Copy)]
 struct Misfit<'a>(Keyword, &'a str);
 
@@ -250,6 +255,9 @@ impl fmt::Display for Misfit<'_> {
         let (name, wanted) = (keyword.name(), keyword.value());
         if value.is_empty() {
             write!(f, "nothing stands after `{name}`, which needs {wanted}")
+        } else if keyword == Keyword::Secret {
+            // What follows may be the secret itself.
+            write!(f, "{name}: what follows isn't {wanted}")
         } else if value == "unix:" {
             write!(f, "{name}: no path stands after `unix:`")
         } else if keyword.has_port() && !value.contains(':') {
