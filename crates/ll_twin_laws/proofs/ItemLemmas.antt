@@ -43,10 +43,10 @@ there_one : (c : Configuration) (xs : List Item) (i : Item) (a : Awaited) → (h
 there_one c xs i a h =
     either_stays (holds c xs a) (ended xs) (holds c (xs ++ i ∷ []) a) (ended (xs ++ i ∷ [])) (holds_one c xs i a) (ends_one xs i) h
 
-there_more : (c : Configuration) (xs ys : List Item) (a : Awaited) → (holds c xs a || ended xs) ≡ true → (holds c (xs ++ ys) a || ended (xs ++ ys)) ≡ true
-there_more c xs [] a h = subst (λ zs. (holds c zs a || ended zs) ≡ true) (sym (append-nil xs)) h
-there_more c xs (y ∷ ys) a h =
-    subst (λ zs. (holds c zs a || ended zs) ≡ true) (append_assoc xs (y ∷ []) ys) (there_more c (xs ++ y ∷ []) ys a (there_one c xs y a h))
+pub there-more : (c : Configuration) (xs ys : List Item) (a : Awaited) → (holds c xs a || ended xs) ≡ true → (holds c (xs ++ ys) a || ended (xs ++ ys)) ≡ true
+there-more c xs [] a h = subst (λ zs. (holds c zs a || ended zs) ≡ true) (sym (append-nil xs)) h
+there-more c xs (y ∷ ys) a h =
+    subst (λ zs. (holds c zs a || ended zs) ≡ true) (append_assoc xs (y ∷ []) ys) (there-more c (xs ++ y ∷ []) ys a (there_one c xs y a h))
 
 -- ---- more items of the channel
 
@@ -54,7 +54,7 @@ pub stays-there : (c : Configuration) (xs ys : List Item) (a : Wanted) → is_th
 unfolding is_there
 stays-there c xs ys a h =
     subst (λ zs. (holds c zs a.awaited || ended zs) ≡ true) (sym (filter-append (λ i. rendition_of i == a.rendition) xs ys))
-    (there_more c (own a.rendition xs) (own a.rendition ys) a.awaited h)
+    (there-more c (own a.rendition xs) (own a.rendition ys) a.awaited h)
 
 -- ---- beginnings of a list
 

@@ -30,7 +30,7 @@ delta_with kind (suc n) c reports k = record (playlist_of c reports k) {
   segments = printed false (drop (suc n) k.window.window);
 }
 
-abbrev playlist_with : Option SkipKind → Configuration → List Report → Rendition → Playlist
+abbrev pub playlist_with : Option SkipKind → Configuration → List Report → Rendition → Playlist
 playlist_with None c reports k = playlist_of c reports k
 playlist_with (Some kind) c reports k = delta_with kind (skip_count k.window) c reports k
 
@@ -38,11 +38,11 @@ delta_is : (kind : SkipKind) (n : ℕ) (v : Seen) → delta_by kind n v ≡ delt
 delta_is kind zero v = refl
 delta_is kind (suc n) v = refl
 
-playlist_is : (form : Option SkipKind) (v : Seen) → playlist_in form v ≡ playlist_with form v.settings (reports_of v) (asked v)
+pub playlist_is : (form : Option SkipKind) (v : Seen) → playlist_in form v ≡ playlist_with form v.settings (reports_of v) (asked v)
 playlist_is None v = refl
 playlist_is (Some kind) v = delta_is kind (skip_count (asked v).window) v
 
-text_is : (form : Option SkipKind) (v : Seen) → text_in form v ≡ spelling (playlist_in form v)
+pub text_is : (form : Option SkipKind) (v : Seen) → text_in form v ≡ spelling (playlist_in form v)
 text_is None v = refl
 text_is (Some kind) v = refl
 
@@ -59,7 +59,7 @@ place_same c none items others k (suc place) (name ∷ names) h =
     let is : k + suc place ≡ k + 1 + place = omega arith in
     place_same c none items others (k + 1) place names (ap (λ q. own q items) (sym is) ∙ h ∙ ap (λ q. own q others) is)
 
-asked_same : (c : Configuration) (items others : List Item) (r : ℕ) → own r items ≡ own r others → asked (seen c items r) ≡ asked (seen c others r)
+pub asked_same : (c : Configuration) (items others : List Item) (r : ℕ) → own r items ≡ own r others → asked (seen c items r) ≡ asked (seen c others r)
 asked_same c items others r h =
     let is : 0 + r ≡ r = omega arith in
     place_same c (kept c []) items others 0 r c.renditions (ap (λ q. own q items) is ∙ h ∙ ap (λ q. own q others) (sym is))

@@ -1,9 +1,9 @@
--- The example, computed: both sides of each equation have the same value.
+-- The examples, computed: both sides of each equation have the same value.
 use Rattle.std.proofs.Common.{refl}
 use Rattle.ll_line.specs.Uris.{report_uri}
 use Rattle.ll_rendition.specs.Refusal.{rendition_refusal}
 use Rattle.ll_verdict.specs.Verdict.{is_there}
-use Rattle.ll_twin_laws.specs.Worked.{WorkedTwins}
+use Rattle.ll_twin_laws.specs.Worked.{WorkedOrders, WorkedTwins}
 
 pub worked : WorkedTwins
 unfolding report_uri rendition_refusal is_there
@@ -23,4 +23,23 @@ worked = record {
   also_waits = refl;
   got = refl;
   also_got = refl;
+}
+
+pub worked-orders : WorkedOrders
+unfolding report_uri rendition_refusal is_there
+worked-orders = record {
+  accepted = refl;
+  others_accepted = refl;
+  own_in_turn = refl;
+  own_late = refl;
+  held_requests = refl;
+  also_held = refl;
+  got = refl;
+  also_got = refl;
+  report = refl;
+  no_report = refl;
+  lines = refl;
+  alike = refl;
+  got_part = refl;
+  also_got_part = refl;
 }
