@@ -1,5 +1,6 @@
 //! The files of channels' spools.
-ghost use Rattle.std.specs.Prelude.{None};
+ghost use Rattle.std.specs.Prelude.{◌≡◌, None, OnErr, OnOk};
+ghost use Rattle.ll_spool.specs.Failures.{HasRisen};
 
 use crate::new_files::NewFiles;
 use crate::side_file::SideFile;
@@ -31,6 +32,8 @@ pub struct SpoolFiles<'a, R> {
     items: File,
     /// The files of each rendition, in their order.
     sides: Vec<Sides>,
+    /// The number of calls that failed so far, 2^64 - 1 at most.
+    failures: u64,
 }
 
 /// The files of a spool can't be used; why was said on standard error.
@@ -57,6 +60,7 @@ impl<'a, R: Files<File = File> + Eprint> SpoolFiles<'a, R> {
                 what,
                 items,
                 sides,
+                failures: 0,
             })),
             Err(error) => Ok(Err(say(rt, &what, &error))),
         }
@@ -159,14 +163,23 @@ fn say<R: Eprint, E: Display>(rt: &R, what: &Text, why: &E) -> Unusable {
     Unusable
 }
 
+/// Returns the file of `side` of `rendition` among those of `sides`, if there is one.
+fn side_of(sides: &mut Vec<Sides>, rendition: usize, side: Side) -> Option<&mut SideFile> {
+    let sides = sides.get_mut(rendition)?;
+    Some(match side {
+        Side::A => &mut sides.a,
+        Side::B => &mut sides.b,
+    })
+}
+
 impl<R> SpoolFiles<'_, R> {
-    /// Returns the file of `side` of `rendition`.
-    fn side(&mut self, rendition: usize, side: Side) -> Result<&mut SideFile, Lost> {
-        let sides = self.sides.get_mut(rendition).ok_or(Lost)?;
-        Ok(match side {
-            Side::A => &mut sides.a,
-            Side::B => &mut sides.b,
-        })
+    /// Counts a call that failed.
+    #[tactic(auto, unfolding(ll_spool::specs::Failures::HasRisen))]
+    fn lost(&mut self) -> Lost
+        ensures { HasRisen self.old.failures self.new.failures }
+    {
+        self.failures = self.failures.saturating_add(1);
+        Lost
     }
 }
 
@@ -186,13 +199,16 @@ impl<R: Eprint> SpoolFiles<'_, R> {
         }
     }
 
-    /// Returns the outcome of a call of a file, and says on standard error why it failed.
-    fn told(&self, done: Result<(), Error>) -> Result<(), Lost> {
+    /// Returns the outcome of a call of a file. If it has failed, counts it, and says on standard error why.
+    fn told(&mut self, done: Result<(), Error>) -> Result<(), Lost>
+        ensures steady { OnOk result (self.new.failures ≡ self.old.failures) }
+        ensures failed { OnErr result (HasRisen self.old.failures self.new.failures) }
+    {
         match done {
             Ok(()) => Ok(()),
             Err(error) => {
                 say(self.rt, &self.what, &error);
-                Err(Lost)
+                Err(self.lost())
             }
         }
     }
@@ -203,37 +219,56 @@ impl<R: Eprint> Disk for SpoolFiles<'_, R> {
 
     ghost files = { λ _. None };
 
+    ghost failures = { λ f. f.failures };
+
     fn append_line(&mut self, text: &[u8]) -> Result<(), Lost> {
         let done = self.items.write_all(text);
         self.told(done)
     }
 
     fn append(&mut self, rendition: usize, side: Side, bytes: &[u8]) -> Result<(), Lost> {
-        let done = self.side(rendition, side)?.append(bytes);
-        self.told(done)
+        match side_of(&mut self.sides, rendition, side) {
+            Some(file) => {
+                let done = file.append(bytes);
+                self.told(done)
+            }
+            None => Err(self.lost()),
+        }
     }
 
     fn clear(&mut self, rendition: usize, side: Side) -> Result<(), Lost> {
-        self.side(rendition, side)?.clear();
-        Ok(())
+        match side_of(&mut self.sides, rendition, side) {
+            Some(file) => {
+                file.clear();
+                Ok(())
+            }
+            None => Err(self.lost()),
+        }
     }
 
     fn cut_text(&mut self, length: u64) -> Result<(), Lost> {
-        self.told(self.items.set_len(length))
-    }
-
-    fn cut(&mut self, rendition: usize, side: Side, length: u64) -> Result<(), Lost> {
-        let done = self.side(rendition, side)?.cut(length);
+        let done = self.items.set_len(length);
         self.told(done)
     }
 
-    fn read(&self, rendition: usize, place: Extent, bytes: &mut [u8]) -> bool {
-        let Some(sides) = self.sides.get(rendition) else {
-            return false;
-        };
-        match place.side {
-            Side::A => sides.a.read(place.offset, bytes),
-            Side::B => sides.b.read(place.offset, bytes),
+    fn cut(&mut self, rendition: usize, side: Side, length: u64) -> Result<(), Lost> {
+        match side_of(&mut self.sides, rendition, side) {
+            Some(file) => {
+                let done = file.cut(length);
+                self.told(done)
+            }
+            None => Err(self.lost()),
         }
+    }
+
+    fn read(&mut self, rendition: usize, place: Extent, bytes: &mut [u8]) -> bool {
+        let read = match side_of(&mut self.sides, rendition, place.side) {
+            Some(file) => file.read(place.offset, bytes),
+            None => false,
+        };
+        if !read {
+            let Lost = self.lost();
+        }
+        read
     }
 }

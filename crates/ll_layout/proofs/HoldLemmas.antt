@@ -1,9 +1,9 @@
 -- What stands in the files stays there.
-use Rattle.std.proofs.Common.{◌≡◌, ◌≤◌, ◌+◌, ℕ, zero, suc, List, [], ◌∷◌, ◌++◌, Bool, true, false, not, ◌==◌, nat_le, refl, ap, sym, subst, ◌∙◌, length, length-append, append_assoc, append-nil, filter, arith}
+use Rattle.std.proofs.Common.{◌≡◌, ◌≤◌, ◌+◌, ℕ, zero, map, suc, List, [], ◌∷◌, ◌++◌, Bool, true, false, not, ◌==◌, nat_le, refl, ap, sym, subst, ◌∙◌, length, length-append, append_assoc, append-nil, filter, arith}
 use Rattle.ll_item.specs.Items.{media_of}
 use Rattle.ll_item.specs.declared.item.Item.{Item}
 use Rattle.ll_item.specs.declared.item.Item.TheVariants as item
-use Rattle.ll_layout.specs.Held.{Each, Holds, IsAt, IsHeld, IsWithin, LayoutValue, file_by, other, sections_size, sections_text, with_file}
+use Rattle.ll_layout.specs.Held.{Each, Holds, IsAt, IsHeld, IsWithin, LayoutValue, file_by, other, sections_size, size, size_before, size_by, stored, sections_text, with_file}
 use Rattle.ll_layout.specs.Moves.{IsTidy, added, first_shown, and_part, and_section, but_map, next_stored, newer_from, now_on, placed, shown_from, with_item, with_part, with_section, without_gone}
 use Rattle.ll_layout.specs.declared.side.Side.{Side}
 use Rattle.ll_layout.specs.declared.side.Side.TheVariants.{A, B}
@@ -298,3 +298,57 @@ fewer-tidy map side end end_before older newer ss h = record {
   newer_within = h.newer_within;
   sections_within = each-filter (λ (s : StoredSection). not (s.map == map)) (λ (s : StoredSection). IsWithin side end s.stored) ss h.sections_within;
 }
+
+-- ---- how many bytes of a side are needed
+
+each-map : {A B : Type 0} (P : B → Type 0) (f : A → B) (xs : List A) → Each (λ x. P (f x)) xs → Each P (map f xs)
+each-map P f [] all = tt
+each-map P f (x ∷ xs) all = (all.0, each-map P f xs all.1)
+
+size-now : (at side : Side) (l : LayoutValue) → side ≡ at → size_by at side l ≡ l.end
+size-now A A l e = refl
+size-now A B l e = absurd (cc)
+size-now B A l e = absurd (cc)
+size-now B B l e = refl
+
+size-other : (at side : Side) (l : LayoutValue) → side ≡ other at → size_by at side l ≡ size_before l.older l.end_before
+size-other A A l e = absurd (cc)
+size-other A B l e = refl
+size-other B A l e = refl
+size-other B B l e = absurd (cc)
+
+-- a side's bytes end where the first `n` of them do
+abbrev IsInside : Side → ℕ → StoredItem → Type 0
+IsInside side n s = s.place.side ≡ side → s.place.offset + s.place.length ≤ n
+
+inside-by : (side at : Side) (n end : ℕ) (s : StoredItem) → (side ≡ at → n ≡ end) → IsWithin at end s → IsInside side n s
+inside-by side at n end s same w = λ here. let e = same (sym here ∙ w.on) in let within = w.within in omega (arith, e, within)
+
+parts-inside : (side at : Side) (n end : ℕ) (ps : List KeptPart) → (side ≡ at → n ≡ end) → Each (λ (p : KeptPart). IsWithin at end p.stored) ps
+    → Each (λ (p : KeptPart). IsInside side n p.stored) ps
+parts-inside side at n end [] same all = tt
+parts-inside side at n end (p ∷ ps) same all = (inside-by side at n end p.stored same all.0, parts-inside side at n end ps same all.1)
+
+sections-inside : (side at : Side) (n end : ℕ) (ss : List StoredSection) → (side ≡ at → n ≡ end) → Each (λ (s : StoredSection). IsWithin at end s.stored) ss
+    → Each (λ (s : StoredSection). IsInside side n s.stored) ss
+sections-inside side at n end [] same all = tt
+sections-inside side at n end (s ∷ ss) same all = (inside-by side at n end s.stored same all.0, sections-inside side at n end ss same all.1)
+
+older-inside : (side : Side) (l : LayoutValue) (ps : List KeptPart) → l.older ≡ ps → Each (λ (p : KeptPart). IsWithin (other l.side) l.end_before p.stored) ps
+    → Each (λ (p : KeptPart). IsInside side (size l side) p.stored) ps
+older-inside side l [] is all = tt
+older-inside side l (p ∷ ps) is all =
+    parts-inside side (other l.side) (size l side) l.end_before (p ∷ ps) (λ e. size-other l.side side l e ∙ ap (λ qs. size_before qs l.end_before) is) all
+
+-- all bytes of a side that are kept are among those that it needs
+pub all-inside : (side : Side) (l : LayoutValue) → IsTidy l.side l.end l.end_before l.older l.newer l.sections
+    → Each (λ (s : StoredItem). s.place.side ≡ side → s.place.offset + s.place.length ≤ size l side) (stored l)
+all-inside side l tidy =
+    let P = IsInside side (size l side) in
+    let older = map (λ (p : KeptPart). p.stored) l.older in
+    let newer = map (λ (p : KeptPart). p.stored) l.newer in
+    let sections = map (λ (s : StoredSection). s.stored) l.sections in
+    each-append P (older ++ newer) sections
+    (each-append P older newer (each-map P (λ (p : KeptPart). p.stored) l.older (older-inside side l l.older refl tidy.older_within))
+    (each-map P (λ (p : KeptPart). p.stored) l.newer (parts-inside side l.side (size l side) l.end l.newer (size-now l.side side l) tidy.newer_within)))
+    (each-map P (λ (s : StoredSection). s.stored) l.sections (sections-inside side l.side (size l side) l.end l.sections (size-now l.side side l) tidy.sections_within))

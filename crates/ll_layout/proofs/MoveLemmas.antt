@@ -1,5 +1,5 @@
 -- Which parts are shown, and where sections are placed.
-use Rattle.std.proofs.Common.{◌≡◌, ◌≤◌, ◌<◌, ◌+◌, ℕ, List, [], ◌∷◌, ◌++◌, Bool, true, false, nat_le, refl, ap, sym, subst, ◌∙◌, length, drop, slice_index_or, arith}
+use Rattle.std.proofs.Common.{◌≡◌, ◌≤◌, ◌<◌, ◌+◌, ℕ, zero, suc, get_or, take, List, [], ◌∷◌, ◌++◌, Bool, true, false, nat_le, refl, ap, sym, subst, ◌∙◌, length, drop, slice_index_or, arith}
 use Rattle.std.proofs.lemmas.Bool.Decides.{nat_tests}
 use Rattle.ll_layout.specs.Held.{sections_size}
 use Rattle.ll_layout.specs.Moves.{placed, shown_from}
@@ -49,3 +49,17 @@ placed-end side ss s end e = ap (λ at. placed side 0 ss ++ placed side at (s �
 pub shown-none : (first : ℕ) (ps : List KeptPart) → length ps ≡ 0 → ps ≡ shown_from first ps
 shown-none first [] e = refl
 shown-none first (p ∷ ps) e = absurd (omega (arith, e))
+
+-- the section at a place is among all
+at-size : (k : ℕ) (ss : List StoredSection) (d : StoredSection) → k < length ss → sections_size (take k ss) + (get_or ss k d).stored.place.length ≤ sections_size ss
+at-size k [] d l = absurd (omega (arith, l))
+at-size zero (s ∷ ss) d l = omega arith
+at-size (suc k) (s ∷ ss) d l = let more = at-size k ss d (omega (arith, l)) in omega (arith, more)
+
+pub large-at : (ss yielded : List StoredSection) (s : StoredSection) (end n : ℕ) → end ≡ sections_size yielded → yielded ≡ take (length yielded) ss
+    → length yielded < length ss → s ≡ get_or ss (length yielded) s → n ≤ end + s.stored.place.length → n ≤ sections_size ss
+large-at ss yielded s end n sum first few is large =
+    let all = at-size (length yielded) ss s few in
+    let same : sections_size yielded ≡ sections_size (take (length yielded) ss) = ap (λ (ts : List StoredSection). sections_size ts) first in
+    let one : s.stored.place.length ≡ (get_or ss (length yielded) s).stored.place.length = ap (λ (t : StoredSection). t.stored.place.length) is in
+    omega (arith, all, same, one, sum, large)

@@ -1,5 +1,5 @@
 -- How what is kept of a rendition's bytes changes.
-use Rattle.std.specs.Prelude.{◌≡◌, ◌<◌, ◌+◌, ◌-◌, ◌^◌, ◌==◌, ℕ, zero, suc, Bool, true, false, not, List, [], ◌∷◌, ◌++◌, if◌then◌else◌, filter, length, nat_le}
+use Rattle.std.specs.Prelude.{◌≡◌, ◌<◌, ◌+◌, ◌-◌, ◌^◌, ◌==◌, ◌&&◌, ℕ, zero, suc, Bool, true, false, not, List, [], ◌∷◌, ◌++◌, if◌then◌else◌, filter, length, nat_le}
 use Rattle.ll_item.specs.Items.{media_of}
 use Rattle.ll_item.specs.declared.item.Item.{Item}
 use Rattle.ll_item.specs.declared.item.Item.TheVariants as item
@@ -106,6 +106,14 @@ now_on side l = record l {
   newer = l.older;
   sections = placed side 0 l.sections;
 }
+
+-- ready for an item's bytes: if it has some, and none of the other side's may be asked for any more, that side is the current one
+abbrev pub room_for : Item → LayoutValue → LayoutValue
+room_for i l = if has_bytes i && (length l.older == 0) then now_on (other l.side) l else l
+
+-- with the item of the number `count`, which has come, and after which the window is `k`
+abbrev pub laid : ℕ → Item → Compact → LayoutValue → LayoutValue
+laid count i k l = added count i k (room_for i l)
 
 -- all bytes that are kept stand within the two files, those of sections on the current side
 pub record IsTidy (side : Side) (end end_before : ℕ) (older newer : List KeptPart) (sections : List StoredSection) : Type 0 where

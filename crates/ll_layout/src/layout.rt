@@ -1,12 +1,13 @@
 //! Where the bytes of a rendition's items are kept.
-ghost use Rattle.std.specs.Prelude.{◌≡◌, ◌≢◌, ◌+◌, ◌++◌, ◌∷◌, [], ◌==◌, ◌&&◌, ℕ, List, IfErr, IfOk, IsErrOf, None, OnOk, Option, length};
+ghost use Rattle.std.specs.Prelude.{◌≡◌, ◌≢◌, ◌≤◌, ◌+◌, ◌^◌, ◌++◌, ◌∷◌, [], ◌==◌, ◌&&◌, ℕ, List, IfErr, IfOk, IsErrOf, None, OnOk, Option, length};
 ghost use Rattle.std.specs.Arc.{arc_value};
 ghost use Rattle.ll_item.specs.Items.{media_of};
 ghost use Rattle.ll_item.specs.declared.item.Item.{Item as ItemValue};
 ghost use Rattle.ll_layout.specs.Held as spec;
-ghost use Rattle.ll_layout.specs.Held.{Each, Holds, IsWithin, sections_text, stored};
+ghost use Rattle.ll_layout.specs.Held.{Each, Holds, IsWithin, sections_size, sections_text, stored};
 ghost use Rattle.ll_layout.specs.Moves.{added, has_bytes, next_stored, now_on, with_part, with_section, without_gone};
 ghost use Rattle.ll_layout.specs.declared.side.Side.{Side as SideValue};
+ghost use Rattle.ll_layout.specs.declared.stored.StoredItem.{StoredItem as StoredValue};
 ghost use Rattle.ll_layout.specs.declared.stored.StoredSection.{StoredSection as SectionValue};
 ghost use Rattle.ll_window.specs.Compact.{compact, map_now};
 ghost use Rattle.ll_window.specs.Refusal.{refusal};
@@ -112,7 +113,8 @@ impl Layout {
 
     /// Returns the number of bytes of `side` that have all of its bytes that may still be asked for.
     pub fn size(&self, side: Side) -> u64
-        ensures { result ≡ spec.size self.now side }
+        ensures value { result ≡ spec.size self.now side }
+        ensures inside { Each (λ (s : StoredValue). s.place.side ≡ side → s.place.offset + s.place.length ≤ result) (stored self.now) }
     {
         if side == self.side {
             self.end
@@ -138,6 +140,8 @@ impl Layout {
     pub fn turn(&mut self) -> Result<(), AddFault>
         requires { self.old.older ≡ [] }
         ensures turned { OnOk result (self.new ≡ now_on (spec.other self.old.side) self.old) }
+        ensures fault { IfErr result (λ fault. fault ≢ AddFault.Refused) }
+        ensures large { IsErrOf result AddFault.TooLarge → 2 ^ 63 ≤ sections_size self.old.sections }
         ensures holds { (files : SideValue → List ℕ) (of : ℕ → List ℕ) → Holds files of self.old
             → OnOk result (Holds (spec.with_file (spec.other self.old.side) (sections_text of self.old.sections) files) of self.new) }
     {
@@ -162,6 +166,7 @@ impl Layout {
             → OnOk result (self.new.window ≡ compact self.old.window.settings (items ++ item.now ∷ [])) }
         ensures refused { (items : List ItemValue) → self.old.window ≡ compact self.old.window.settings items
             → IsErrOf result AddFault.Refused → refusal self.old.window.settings items item.now ≢ None }
+        ensures large { IsErrOf result AddFault.TooLarge → 2 ^ 63 ≤ self.old.end + length (media_of item.now) }
         ensures added { OnOk result (self.new ≡ added count item.now self.new.window self.old) }
         ensures holds { (files : SideValue → List ℕ) (of : ℕ → List ℕ) → Holds files of self.old → of count ≡ media_of item.now
             → OnOk result (Holds (spec.with_file self.old.side (files self.old.side ++ media_of item.now) files) of self.new) }
@@ -185,6 +190,7 @@ impl Layout {
     fn add_part(&mut self, number: u64, count: u64, length: u64) -> Result<(), AddFault>
         ensures added { OnOk result (self.new ≡ with_part number count length self.old) }
         ensures fault { IfErr result (λ fault. fault ≢ AddFault.Refused) }
+        ensures large { IsErrOf result AddFault.TooLarge → 2 ^ 63 ≤ self.old.end + length }
     {
         let end = grown(self.end, length)?;
         if length > 0 {
@@ -199,6 +205,7 @@ impl Layout {
     fn add_section(&mut self, map: u64, count: u64, length: u64) -> Result<(), AddFault>
         ensures added { OnOk result (self.new ≡ with_section map count length self.old) }
         ensures fault { IfErr result (λ fault. fault ≢ AddFault.Refused) }
+        ensures large { IsErrOf result AddFault.TooLarge → 2 ^ 63 ≤ self.old.end + length }
     {
         let end = grown(self.end, length)?;
         let stored = self.next(count, length);

@@ -1,5 +1,5 @@
 //! How what is kept of a rendition's bytes changes.
-ghost use Rattle.std.specs.Prelude.{◌≡◌, ◌≢◌, ◌+◌, ◌++◌, ◌∷◌, [], ◌==◌, IfErr, IfOk, IsErrOf, List, None, OnErr, OnOk, filter, length, map, nat_le, not};
+ghost use Rattle.std.specs.Prelude.{◌≡◌, ◌≢◌, ◌≤◌, ◌+◌, ◌^◌, ◌++◌, ◌∷◌, [], ◌==◌, IfErr, IfOk, IsErrOf, List, None, OnErr, OnOk, filter, length, map, nat_le, not};
 ghost use Rattle.ll_item.specs.declared.item.Item.{Item as ItemValue};
 ghost use Rattle.ll_layout.specs.Held.{sections_size};
 ghost use Rattle.ll_layout.specs.Moves as spec;
@@ -22,7 +22,7 @@ const SIZE_END: u64 = 1 << 63;
 /// Returns the number of bytes of a file of `end` bytes after `more`, or `TooLarge` if that is 2^63 or more.
 pub(crate) fn grown(end: u64, more: u64) -> Result<u64, AddFault>
     ensures value { IfOk result (λ n. n ≡ end + more) }
-    ensures fault { IfErr result (λ fault. fault ≡ AddFault.TooLarge) }
+    ensures fault { IfErr result (λ fault. (fault ≡ AddFault.TooLarge) × (2 ^ 63 ≤ end + more)) }
 {
     match end.checked_add(more) {
         Some(all) if all < SIZE_END => Ok(all),
@@ -36,7 +36,9 @@ pub(crate) fn place_sections(
     sections: Vec<StoredSection>,
     side: Side,
 ) -> Result<(Vec<StoredSection>, u64), AddFault>
-    ensures { IfOk result (λ r. (r.0.items ≡ spec.placed side 0 sections.items) × (r.1 ≡ sections_size sections.items)) }
+    ensures placed { IfOk result (λ r. (r.0.items ≡ spec.placed side 0 sections.items) × (r.1 ≡ sections_size sections.items)) }
+    ensures fault { IfErr result (λ fault. fault ≢ AddFault.Refused) }
+    ensures large { IsErrOf result AddFault.TooLarge → 2 ^ 63 ≤ sections_size sections.items }
 {
     let mut placed = Vec::with_capacity(alloc, sections.len())?;
     let mut end = 0;
@@ -133,6 +135,7 @@ pub(crate) fn push(window: &mut Window, item: &Item) -> Result<(), AddFault>
         → OnOk result (window.new ≡ compact window.old.settings (items ++ item.now ∷ [])) }
     ensures refused { (items : List ItemValue) → window.old ≡ compact window.old.settings items
         → IsErrOf result AddFault.Refused → refusal window.old.settings items item.now ≢ None }
+    ensures fault { IfErr result (λ fault. fault ≢ AddFault.TooLarge) }
 {
     match window.push(item.copy()?) {
         Ok(()) => Ok(()),

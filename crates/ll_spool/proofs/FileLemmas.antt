@@ -9,7 +9,7 @@ use Rattle.ll_layout.specs.declared.stored.KeptPart.{KeptPart}
 use Rattle.ll_layout.specs.declared.stored.Extent.{Extent}
 use Rattle.ll_layout.specs.declared.stored.StoredSection.{StoredSection}
 use Rattle.ll_layout.specs.declared.stored.StoredItem.{StoredItem}
-use Rattle.ll_spool.specs.declared.fault.NotKept.{NotKept}
+use Rattle.ll_spool.specs.declared.fault.KeepFault.{KeepFault}
 use Rattle.ll_spool.specs.Files.{AreHeld, AreOthersSame, AreRestSame, Files, HoldsFrom, IsChanged, IsHeldIn, IsReadAt, IsSourceOf}
 
 -- ---- bytes at a place
@@ -33,6 +33,10 @@ pub copied_bytes : (r : ℕ) (side : Side) (place : Extent) (old new : Option Fi
 copied_bytes r side place None new x y same a b h = h
 copied_bytes r side place (Some files) new x y same a b h =
     subst (λ z. IsChanged r side (λ file. file ++ z) (Some files) new) (at-one (files r place.side) place.offset x y same a b) h
+
+-- an item's bytes stand at one place alone
+pub same_held : (f : Side → List ℕ) (of then : ℕ → List ℕ) (s : StoredItem) → IsHeld f of s → IsHeld f then s → then s.count ≡ of s.count
+same_held f of then s a b = at-one (f s.place.side) s.place.offset (then s.count) (of s.count) (sym b.length ∙ a.length) b.at a.at
 
 -- ---- sides
 
@@ -234,7 +238,7 @@ kept-in of i ls l m (Some old) (Some new) is all one rest =
     (subst (λ q. Holds (new q) of m) (sym here) (one (subst (λ q. Holds (old q) of l) here (holds_at 0 i of old ls l is all))))
 
 -- the item's bytes were written in its rendition, or a write failed
-pub kept_in : (of : ℕ → List ℕ) (i : ℕ) (ls : List LayoutValue) (l m : LayoutValue) (old new : Option Files) (r : Result (Unit {0}) NotKept) → slice_get ls i ≡ Some l
+pub kept_in : (of : ℕ → List ℕ) (i : ℕ) (ls : List LayoutValue) (l m : LayoutValue) (old new : Option Files) (r : Result (Unit {0}) KeepFault) → slice_get ls i ≡ Some l
     → AreHeld of ls old → (IsHeldIn i of l old → OnOk r (IsHeldIn i of m new)) → OnOk r (AreRestSame i old new) → OnOk r (AreHeld of (set ls i m) new)
 kept_in of i ls l m old new (Ok done) is all one rest = kept-in of i ls l m old new is all one rest
 kept_in of i ls l m old new (Err fault) is all one rest = tt

@@ -1,6 +1,7 @@
 -- Where the first line of a text ends, and which item a line spells.
-use Rattle.std.proofs.Common.{◌≡◌, ℕ, ◌+◌, ◌-◌, ◌<◌, ◌==◌, List, [], ◌∷◌, Bool, true, false, cond, Some, None, Result, Ok, Err, IfOk, IsErrOf, refl, ap, sym, ◌∙◌, length, get_or, take, drop, option_and_then, arith}
-use Rattle.std.proofs.lemmas.List.{take_rest}
+use Rattle.std.proofs.Common.{◌≡◌, ◌++◌, append_assoc, ℕ, ◌+◌, ◌-◌, ◌<◌, ◌==◌, List, [], ◌∷◌, Bool, true, false, cond, Some, None, Result, Ok, Err, IfOk, IsErrOf, refl, ap, sym, ◌∙◌, length, get_or, take, drop, option_and_then, arith}
+use Rattle.std.proofs.lemmas.Bool.Decides.{nat_tests}
+use Rattle.std.proofs.lemmas.List.{drop_more, take-append-drop, take_rest}
 use Rattle.std.proofs.lemmas.List.Elements.{All-from_get_or}
 use Rattle.std.proofs.lemmas.List.Splits.{slice_split_first, slice_split_none}
 use Rattle.std.proofs.lemmas.List.Sums.{position_or_len_is}
@@ -10,6 +11,7 @@ use Rattle.std.specs.Str.{IsUtf8, is_utf8}
 use Rattle.memchr.specs.Find.{IsFirstByte, is_byte}
 use Rattle.ll_attr.proofs.Joined.{some_piece}
 use Rattle.ll_attr.specs.Words.{after, pieces_at}
+use Rattle.ll_entry.specs.Leads.{with_end}
 use Rattle.ll_settings.specs.Settings.{Configuration}
 use Rattle.ll_item.specs.declared.item.Item.{Item}
 use Rattle.ll_spool.specs.declared.fault.RestoreFault.{RestoreFault}
@@ -18,6 +20,9 @@ use Rattle.ll_spool.specs.Spooled.{lines_in, numbered, published_in, spooled_in,
 
 abbrev is_lf : ℕ → Bool
 is_lf b = b == 10
+
+lf-is : (b : ℕ) → is_lf b ≡ true → b ≡ 10
+lf-is b h = grind (arith, nat_tests)
 
 not_true : (b : Bool) → ¬ (b ≡ true) → b ≡ false
 not_true true h = absurd (h refl)
@@ -39,6 +44,17 @@ cut-some bytes end h =
     ∙ ap (λ n. whole (take n bytes ∷ pieces_at 10 (drop (n + 1) bytes))) at
     ∙ lines-cons (take end bytes) (drop (end + 1) bytes)
     ∙ ap (λ rest. take end bytes ∷ lines_in rest) (sym (take_rest bytes (end + 1)))
+
+-- the line, its end, and what follows
+pub cut-text : (bytes : List ℕ) (end : ℕ) → IsFirstByte (is_byte 10) bytes (Some end) → bytes ≡ with_end (take end bytes) ++ take (length bytes - (end + 1)) (drop (end + 1) bytes)
+cut-text bytes end h =
+    let first = h.0 in
+    let within : end < length bytes = omega (arith, first.high) in
+    let lf : get_or bytes end 0 ≡ 10 = lf-is (get_or bytes end 0) h.1 in
+    sym (take-append-drop end bytes)
+    ∙ ap (λ t. take end bytes ++ t) (drop_more bytes end 0 within ∙ ap (λ b. b ∷ drop (end + 1) bytes) lf)
+    ∙ sym (append_assoc (take end bytes) (10 ∷ []) (drop (end + 1) bytes))
+    ∙ ap (λ rest. with_end (take end bytes) ++ rest) (sym (take_rest bytes (end + 1)))
 
 pub cut-none : (bytes : List ℕ) → IsFirstByte (is_byte 10) bytes None → lines_in bytes ≡ []
 cut-none bytes h =

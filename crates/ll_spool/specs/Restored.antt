@@ -1,9 +1,18 @@
 -- What a start publishes of a spool.
-use Rattle.std.specs.Prelude.{◌≡◌, ◌+◌, ℕ, List, ◌++◌, Option, Some, None, Result, Ok, Err, length, map}
-use Rattle.ll_item.specs.Items.{blank}
-use Rattle.ll_settings.specs.Settings.{Configuration}
+use Rattle.std.specs.Prelude.{◌≡◌, ◌+◌, ◌-◌, ℕ, List, [], ◌∷◌, ◌++◌, Option, Some, None, Result, Ok, Err, flat_map, length, map, slice_get}
+use Rattle.ll_entry.specs.Leads.{with_end}
+use Rattle.ll_entry.specs.SettingsLine.{settings_line}
+use Rattle.ll_item.specs.Items.{blank, media_of}
 use Rattle.ll_item.specs.declared.item.Item.{Item}
-use Rattle.ll_spool.specs.Spooled.{items_from, spool_in, spooled_in}
+use Rattle.ll_layout.specs.Held.{LayoutValue}
+use Rattle.ll_settings.specs.Settings.{Configuration}
+use Rattle.ll_spool.specs.Files.{AreStored, Files}
+use Rattle.ll_spool.specs.Layouts.{layouts_after}
+use Rattle.ll_spool.specs.Spooled.{items_from, lines_in, spool_in, spooled_in}
+
+abbrev pub bytes_or_none : Option Item → List ℕ
+bytes_or_none None = []
+bytes_or_none (Some item) = media_of item
 
 -- the items after these more, if they are known
 abbrev pub accepted_after : Option (List Item) → List Item → Option (List Item)
@@ -29,10 +38,44 @@ pub record IsPublished (read : Result (List Item) ℕ) (old new : Option (List I
 abbrev pub IsRestored : Configuration → List ℕ → Option (List Item) → Option (List Item) → ℕ → Type 0
 IsRestored c text old new count = IsPublished (spool_in c text) old new count
 
--- the lines of a spool's items that weren't read yet, and the number of those that were
+-- the bytes of the item of the number `n` among these, which have the numbers from 1 on
+abbrev pub nth_bytes : List Item → ℕ → List ℕ
+nth_bytes items n = bytes_or_none (slice_get items (n - 1))
+
+-- The spool was restored: the layouts are those after the items that were published, and these have the bytes that its files have: wherever
+-- bytes of an item are kept, they are just its own, whatever items follow.
+pub record IsRestoredFrom (c : Configuration) (text : List ℕ) (old new : Option (List Item)) (count : ℕ) (layouts : List LayoutValue) (files : Option Files) : Type 0 where
+  pub restored : IsRestored c text old new count
+  pub laid : layouts ≡ layouts_after c restored.items
+  pub held : (more : List Item) → AreStored (nth_bytes (restored.items ++ more)) layouts files
+
+-- ---- the whole lines
+
+-- the whole lines of a text, with their ends
+abbrev pub whole_text : List ℕ → List ℕ
+whole_text text = flat_map with_end (lines_in text)
+
+-- the whole lines have the first `n` bytes of a text
+pub record IsWhole (text : List ℕ) (n : ℕ) : Type 0 where
+  pub rest : List ℕ
+  pub is : text ≡ whole_text text ++ rest
+  pub long : length (whole_text text) ≡ n
+
+abbrev pub begun_by : Configuration → List (List ℕ) → List ℕ
+begun_by c [] = with_end (settings_line c)
+begun_by c (line ∷ lines) = flat_map with_end (line ∷ lines)
+
+-- a spool's text that is ready for the next line: its whole lines, or the settings line if there are none
+abbrev pub begun_text : Configuration → List ℕ → List ℕ
+begun_text c text = begun_by c (lines_in text)
+
+-- ---- while lines are read
+
+-- the lines of a spool's items that weren't read yet, the number of those that were, and the bytes that are left
 pub record Left : Type 0 where
   pub lines : List (List ℕ)
   pub count : ℕ
+  pub text : List ℕ
 
 -- the items in front of those of what is left
 abbrev pub in_front : List Item → Result (List Item) ℕ → Result (List Item) ℕ

@@ -4,10 +4,54 @@ ghost use Rattle.std.specs.Prelude.{◌≡◌};
 use crate::disk::Lost;
 use ll_layout::AddFault;
 use std::alloc::AllocError;
+use std::marker::Model;
 
-/// An item wasn't kept, and no later one of its channel will be until the server is started again.
+/// Why an item isn't kept.
+#[derive(Clone, Copy, PartialEq, Eq)]
+pub enum KeepFault {
+    /// An earlier item of the channel wasn't kept.
+    Earlier,
+    /// Out of memory.
+    Memory,
+    /// A call of the disk failed.
+    Lost,
+    /// The channel has no such rendition, a rule of this refuses the item, its files would be too large, or only the number of the item's
+    /// bytes is known.
+    Refused,
+}
+
+/// A token: an item wasn't kept, and no later one of its channel will be until the server is started again. Only
+/// [`Spool::keep`](crate::Spool::keep) makes one.
 #[derive(Clone, Copy)]
-pub struct NotKept;
+pub struct NotKept {
+    fault: KeepFault,
+}
+
+impl Model for NotKept {
+    ghost use Rattle.ll_spool.specs.declared.fault.KeepFault.{KeepFault};
+
+    ghost Value = { KeepFault };
+
+    ghost view = { λ n. n.fault };
+
+    ghost inverse = { λ fault. record { fault = fault } };
+}
+
+impl NotKept {
+    /// Returns the token of an item that isn't kept because of `fault`.
+    pub(crate) fn new(fault: KeepFault) -> NotKept
+        ensures { result ≡ fault }
+    {
+        NotKept { fault }
+    }
+
+    /// Returns why the item isn't kept.
+    pub fn fault(&self) -> KeepFault
+        ensures { result ≡ self.now }
+    {
+        self.fault
+    }
+}
 
 /// Why a spool can't be restored.
 #[derive(Clone, Copy)]
@@ -30,32 +74,38 @@ impl From<AllocError> for RestoreFault {
     }
 }
 
-impl From<AllocError> for NotKept {
-    ghost use Rattle.std.specs.Prelude.{⊤};
+impl From<AllocError> for KeepFault {
+    ghost use Rattle.std.specs.Prelude.{◌≡◌};
+    ghost use Rattle.ll_spool.specs.declared.fault.KeepFault.TheVariants.{Memory};
 
-    ghost from_gives = { λ error fault. ⊤ };
+    ghost from_gives = { λ error fault. fault ≡ Memory };
 
-    fn from(_error: AllocError) -> NotKept {
-        NotKept
+    fn from(_error: AllocError) -> KeepFault {
+        KeepFault::Memory
     }
 }
 
-impl From<AddFault> for NotKept {
-    ghost use Rattle.std.specs.Prelude.{⊤};
+impl From<AddFault> for KeepFault {
+    ghost use Rattle.std.specs.Prelude.{◌≡◌};
+    ghost use Rattle.ll_spool.specs.Kept.{fault_by};
 
-    ghost from_gives = { λ error fault. ⊤ };
+    ghost from_gives = { λ error fault. fault ≡ fault_by error };
 
-    fn from(_error: AddFault) -> NotKept {
-        NotKept
+    fn from(error: AddFault) -> KeepFault {
+        match error {
+            AddFault::Memory => KeepFault::Memory,
+            AddFault::Refused | AddFault::TooLarge => KeepFault::Refused,
+        }
     }
 }
 
-impl From<Lost> for NotKept {
-    ghost use Rattle.std.specs.Prelude.{⊤};
+impl From<Lost> for KeepFault {
+    ghost use Rattle.std.specs.Prelude.{◌≡◌};
+    ghost use Rattle.ll_spool.specs.declared.fault.KeepFault.TheVariants.{Lost};
 
-    ghost from_gives = { λ error fault. ⊤ };
+    ghost from_gives = { λ error fault. fault ≡ Lost };
 
-    fn from(_error: Lost) -> NotKept {
-        NotKept
+    fn from(_error: Lost) -> KeepFault {
+        KeepFault::Lost
     }
 }

@@ -6,7 +6,8 @@ use ll_item::{Item, Media, PartItem};
 
 /// Returns `item` with the bytes `media`, if it is one that has bytes.
 pub(crate) fn filled(item: Item, media: Media) -> Item
-    ensures { length media ≡ length (media_of item) → blank result ≡ blank item }
+    ensures same { length media ≡ length (media_of item) → blank result ≡ blank item }
+    ensures filled { length media ≡ length (media_of item) → media_of result ≡ media }
 {
     match &item {
         Item::Part(part) => Item::Part(PartItem {

@@ -8,10 +8,12 @@ mod fault;
 mod filled;
 mod line;
 mod lines;
+mod placed;
 mod restoring;
 mod spool;
+mod survey;
 
 pub use disk::{Disk, Lost};
-pub use fault::{NotKept, RestoreFault};
+pub use fault::{KeepFault, NotKept, RestoreFault};
 pub use restoring::{Accepts, restore};
 pub use spool::{Kept, Spool};

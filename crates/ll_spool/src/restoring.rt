@@ -1,19 +1,22 @@
 //! A start: the items of a spool are published again.
-ghost use Rattle.std.specs.Prelude.{◌≡◌, ◌<◌, ◌^◌, ◌∷◌, [], IfOk, IfSome, IsErrOf, List, OnOk, Option, length, ℕ};
-ghost use Rattle.ll_item.specs.Items.{blank, media_of};
+ghost use Rattle.std.specs.Prelude.{◌≡◌, ◌<◌, ◌^◌, ◌∷◌, [], IfOk, IfSome, List, OnOk, Option, false, length};
+ghost use Rattle.ll_item.specs.Items.{blank, media_of, rendition_of};
 ghost use Rattle.ll_item.specs.declared.item.Item.{Item as ItemValue};
-ghost use Rattle.ll_spool.specs.Restored.{IsPublished, IsRestored, IsSpelledBy, accepted_after};
-ghost use Rattle.ll_spool.specs.Spooled.{items_from, lines_in};
+ghost use Rattle.ll_spool.specs.Placed.{HasBytesAt, HasRest, IsGivenTo, IsPublishedFrom, IsRead};
+ghost use Rattle.ll_spool.specs.Restored.{IsRestoredFrom, IsSpelledBy, IsWhole, accepted_after};
+ghost use Rattle.ll_spool.specs.Spooled.{lines_in};
 
 use crate::disk::Disk;
 use crate::fault::RestoreFault;
 use crate::filled::{filled, item_len};
 use crate::line::{bad, read_line};
 use crate::lines::{Lines, cut_line};
+use crate::placed::{PlacedItem, place_of, stored_in};
 use crate::spool::Spool;
+use crate::survey::{begun, survey};
 use ll_entry::settings_text;
 use ll_item::{Item, Media, Payload};
-use ll_layout::{AddFault, Extent, Layout, StoredItem};
+use ll_layout::{Extent, Layout};
 use ll_settings::Settings;
 use std::alloc::{AllocError, Global};
 
@@ -27,20 +30,26 @@ pub trait Accepts {
         ensures accepted { IfOk result (λ found. IfSome found (λ n. accepted self.new ≡ accepted_after (accepted self.old) (item ∷ []))) };
 }
 
-/// Publishes the items of `text`, the text of the spool of a channel of `settings` whose files are `disk`. Returns the spool, which goes on
-/// after them, and their number.
+/// Publishes the items of `text`, the text of the spool of a channel of `settings` whose files are `disk`, with the bytes that these have of
+/// them. Returns the spool, which goes on after them, and their number.
 pub fn restore<D: Disk, A: Accepts>(
     alloc: Global,
     settings: &Settings,
     text: &[u8],
-    disk: D,
+    mut disk: D,
     channel: &mut A,
 ) -> Result<(Spool<D>, u64), RestoreFault>
-    ensures restored { IfOk result (λ r. IsRestored settings.now text.now (A.accepted channel.old) (A.accepted channel.new) r.1) }
-    ensures files { IfOk result (λ r. r.0.disk ≡ disk) }
+    ensures restored { IfOk result (λ r.
+        IsRestoredFrom settings.now text.now (A.accepted channel.old) (A.accepted channel.new) r.1 r.0.layouts.items (D.files disk)) }
+    ensures whole { IfOk result (λ r. IsWhole text.now r.0.whole) }
+    ensures settings { IfOk result (λ r. r.0.settings ≡ settings.now) }
+    ensures going { IfOk result (λ r. r.0.failed ≡ false) }
+    ensures lines { IfOk result (λ r. D.lines r.0.disk ≡ D.lines disk) }
+    ensures files { IfOk result (λ r. D.files r.0.disk ≡ D.files disk) }
+    ensures steady { IfOk result (λ r. D.failures r.0.disk ≡ D.failures disk) }
 {
     let own = settings.copy(alloc)?;
-    match publish_text(alloc, settings, text, &disk, channel) {
+    match publish_text(alloc, settings, text, &mut disk, channel) {
         Ok(done) => {
             let spool = Spool::new(alloc, own, disk, done.layouts, done.whole);
             Ok((spool, done.count))
@@ -63,10 +72,15 @@ fn publish_text<D: Disk, A: Accepts>(
     alloc: Global,
     settings: &Settings,
     text: &[u8],
-    disk: &D,
+    disk: &mut D,
     channel: &mut A,
 ) -> Result<Done, RestoreFault>
-    ensures { IfOk result (λ d. IsRestored settings.now text.now (A.accepted channel.old) (A.accepted channel.new) d.count) }
+    ensures restored { IfOk result (λ d.
+        IsRestoredFrom settings.now text.now (A.accepted channel.old) (A.accepted channel.new) d.count d.layouts.items (D.files disk.old)) }
+    ensures whole { IfOk result (λ d. IsWhole text.now d.whole) }
+    ensures lines { D.lines disk.new ≡ D.lines disk.old }
+    ensures files { D.files disk.new ≡ D.files disk.old }
+    ensures steady { OnOk result (D.failures disk.new ≡ D.failures disk.old) }
 {
     let Some((first, lines)) = cut_line(text) else {
         return Ok(Done {
@@ -79,9 +93,7 @@ fn publish_text<D: Disk, A: Accepts>(
     if first != line.as_bytes() {
         return Err(RestoreFault::Line(1));
     }
-    let layouts = survey(alloc, settings, lines)?;
-    let stored = stored_in(alloc, &layouts)?;
-    let (count, rest) = publish(alloc, settings, lines, &stored, disk, channel)?;
+    let (layouts, count, rest) = publish_lines(alloc, settings, lines, disk, channel)?;
     let whole = text.len().saturating_sub(rest) as u64;
     Ok(Done {
         layouts,
@@ -90,123 +102,86 @@ fn publish_text<D: Disk, A: Accepts>(
     })
 }
 
-/// Returns the layouts of the renditions of a channel without items.
-fn begun(alloc: Global, settings: &Settings) -> Result<Vec<Layout>, AllocError> {
-    let names = settings.renditions();
-    let mut layouts = Vec::with_capacity(alloc, names.len())?;
-    for _name in names {
-        layouts.push(Layout::new(alloc, settings)?)?;
-    }
-    Ok(layouts)
-}
-
-/// Returns where the bytes of each rendition are after the items of `text`.
-fn survey(alloc: Global, settings: &Settings, text: &[u8]) -> Result<Vec<Layout>, RestoreFault> {
-    let mut layouts = begun(alloc, settings)?;
-    match follow_all(&mut layouts, alloc, settings, text) {
-        Ok(()) => Ok(layouts),
+/// Publishes the items of `text`, whose bytes are in `disk`. Returns the layouts after them, the number of items, and the number of bytes after
+/// the last line.
+fn publish_lines<D: Disk, A: Accepts>(
+    alloc: Global,
+    settings: &Settings,
+    text: &[u8],
+    disk: &mut D,
+    channel: &mut A,
+) -> Result<(Vec<Layout>, u64, usize), RestoreFault>
+    ensures published { IfOk result (λ r.
+        IsPublishedFrom settings.now text.now (A.accepted channel.old) (A.accepted channel.new) r.1 r.0.items (D.files disk.old)) }
+    ensures rest { IfOk result (λ r. HasRest text.now r.2) }
+    ensures lines { D.lines disk.new ≡ D.lines disk.old }
+    ensures files { D.files disk.new ≡ D.files disk.old }
+    ensures steady { OnOk result (D.failures disk.new ≡ D.failures disk.old) }
+{
+    let layouts = survey(alloc, settings, text)?;
+    let stored = stored_in(alloc, &layouts)?;
+    match publish(alloc, settings, text, &stored, disk, channel) {
+        Ok((count, rest)) => Ok((layouts, count, rest)),
         Err(fault) => Err(fault),
     }
 }
 
-/// Adds the items of `text`, all of their channel, to the layouts of its renditions.
-fn follow_all(
-    layouts: &mut Vec<Layout>,
-    alloc: Global,
-    settings: &Settings,
-    text: &[u8],
-) -> Result<(), RestoreFault> {
-    let mut lines = Lines::of(text);
-    while let Some((count, line)) = lines.next() {
-        follow_line(layouts, alloc, settings, count, line)?;
-    }
-    Ok(())
-}
-
-/// Parses `line` as that of the item of the number `count`, and adds this to the layout of its rendition.
-fn follow_line(
-    layouts: &mut Vec<Layout>,
-    alloc: Global,
-    settings: &Settings,
-    count: u64,
-    line: &[u8],
-) -> Result<(), RestoreFault>
-    requires few { count < 2 ^ 63 }
-{
-    let item = read_line(alloc, settings, count, line)?;
-    added(count, follow(layouts, count, &item))
-}
-
-/// Adds `item`, the channel's item of the number `count`, to the layout of its rendition.
-fn follow(layouts: &mut Vec<Layout>, count: u64, item: &Item) -> Result<(), AddFault> {
-    let Some(layout) = layouts.get_mut(item.rendition()) else {
-        return Err(AddFault::Refused);
-    };
-    if layout.turns_for(item) {
-        layout.turn()?;
-    }
-    layout.add(count, item)
-}
-
-/// Returns the bytes that may still be asked for, in the order of their items.
-fn stored_in(alloc: Global, layouts: &[Layout]) -> Result<Vec<StoredItem>, AllocError> {
-    let mut stored = Vec::new(alloc);
-    for layout in layouts {
-        layout.push_stored(&mut stored)?;
-    }
-    stored.sort_unstable_by_key(|stored: &StoredItem| stored.count);
-    Ok(stored)
-}
-
-/// Publishes the items of `text`, with the bytes of those that are `stored`. Returns the number of items, and the number of bytes after the
-/// last line.
+/// Publishes the items of `text`, with the bytes of those that are `stored`, which are in the order of their items. Returns the number of
+/// items, and the number of bytes after the last line.
 fn publish<D: Disk, A: Accepts>(
     alloc: Global,
     settings: &Settings,
     text: &[u8],
-    stored: &[StoredItem],
-    disk: &D,
+    stored: &[PlacedItem],
+    disk: &mut D,
     channel: &mut A,
 ) -> Result<(u64, usize), RestoreFault>
-    ensures published { IfOk result (λ r. IsPublished (items_from settings.now 1 (lines_in text.now)) (A.accepted channel.old) (A.accepted channel.new) r.0) }
+    ensures published { IfOk result (λ r.
+        IsGivenTo settings.now (lines_in text.now) (A.accepted channel.old) (A.accepted channel.new) r.0 stored.now (D.files disk.old)) }
+    ensures rest { IfOk result (λ r. HasRest text.now r.1) }
+    ensures lines { D.lines disk.new ≡ D.lines disk.old }
+    ensures files { D.files disk.new ≡ D.files disk.old }
+    ensures steady { OnOk result (D.failures disk.new ≡ D.failures disk.old) }
 {
     let mut lines = Lines::of(text);
     let mut next = 0;
     while let Some((count, line)) = lines.next() {
-        let place = place_of(count, stored.get(next));
-        if place.is_some() {
-            next = next.saturating_add(1);
-        }
-        let item = read_item(alloc, settings, count, line, place, disk)?;
+        let (item, then) = read_item(alloc, settings, count, line, stored, next, disk)?;
         accept(channel, count, item)?;
+        next = then;
+    }
+    // (each of them is of one of the items, so none is left; to test it costs less than to prove it)
+    if let Some(left) = stored.get(next) {
+        return Err(RestoreFault::Line(left.stored.count.saturating_add(1)));
     }
     Ok((lines.count(), lines.rest_len()))
 }
 
-/// Returns where the bytes of the item of the number `count` are, if these are `stored`.
-fn place_of(count: u64, stored: Option<&StoredItem>) -> Option<Extent> {
-    match stored {
-        Some(found) if found.count == count => Some(found.place),
-        _ => None,
-    }
-}
-
-/// Parses `line` as that of the item of the number `count`. If its bytes are at `place`, it has these, else zeros.
+/// Parses `line` as that of the item of the number `count`. If the bytes at `next` of those `stored` are the item's, it has these, else zeros.
+/// Returns the item, and which of those stored come next.
 fn read_item<D: Disk>(
     alloc: Global,
     settings: &Settings,
     count: u64,
     line: &[u8],
-    place: Option<Extent>,
-    disk: &D,
-) -> Result<Item, RestoreFault>
+    stored: &[PlacedItem],
+    next: usize,
+    disk: &mut D,
+) -> Result<(Item, usize), RestoreFault>
     requires few { count < 2 ^ 63 }
-    ensures spelled { IfOk result (IsSpelledBy settings.now count line.now) }
+    ensures spelled { IfOk result (λ r. IsSpelledBy settings.now count line.now r.0) }
+    ensures read { IfOk result (λ r. IsRead count r.0 stored.now next r.1 (D.files disk.old)) }
+    ensures lines { D.lines disk.new ≡ D.lines disk.old }
+    ensures files { D.files disk.new ≡ D.files disk.old }
+    ensures steady { OnOk result (D.failures disk.new ≡ D.failures disk.old) }
 {
     let item = read_line(alloc, settings, count, line)?;
-    match place {
-        Some(place) => with_bytes(alloc, count, item, place, disk),
-        None => Ok(item),
+    match place_of(count, item.rendition(), stored, next) {
+        Some(place) => {
+            let item = with_bytes(alloc, count, item, place, disk)?;
+            Ok((item, next + 1))
+        }
+        None => Ok((item, next)),
     }
 }
 
@@ -216,10 +191,14 @@ fn with_bytes<D: Disk>(
     count: u64,
     item: Item,
     place: Extent,
-    disk: &D,
+    disk: &mut D,
 ) -> Result<Item, RestoreFault>
     requires few { count < 2 ^ 63 }
     ensures same { IfOk result (λ filled. blank filled ≡ blank item) }
+    ensures bytes { IfOk result (λ filled. HasBytesAt (D.files disk.old) (rendition_of item) place (media_of filled)) }
+    ensures lines { D.lines disk.new ≡ D.lines disk.old }
+    ensures files { D.files disk.new ≡ D.files disk.old }
+    ensures steady { OnOk result (D.failures disk.new ≡ D.failures disk.old) }
 {
     match media_at(alloc, count, &item, place, disk) {
         Ok(media) => Ok(filled(item, media)),
@@ -233,10 +212,14 @@ fn media_at<D: Disk>(
     count: u64,
     item: &Item,
     place: Extent,
-    disk: &D,
+    disk: &mut D,
 ) -> Result<Media, RestoreFault>
     requires few { count < 2 ^ 63 }
     ensures long { IfOk result (λ media. length media ≡ length (media_of item.now)) }
+    ensures bytes { IfOk result (λ media. HasBytesAt (D.files disk.old) (rendition_of item.now) place media) }
+    ensures lines { D.lines disk.new ≡ D.lines disk.old }
+    ensures files { D.files disk.new ≡ D.files disk.old }
+    ensures steady { OnOk result (D.failures disk.new ≡ D.failures disk.old) }
 {
     if item_len(item) != place.length {
         return Err(bad(count));
@@ -248,17 +231,6 @@ fn media_at<D: Disk>(
     match Payload::of_bytes(&bytes) {
         Some(payload) => Ok(Media::new(alloc, &payload)?),
         None => Err(bad(count)),
-    }
-}
-
-/// Returns the fault of the line of the item of the number `count`, if that couldn't be added.
-fn added(count: u64, outcome: Result<(), AddFault>) -> Result<(), RestoreFault>
-    requires few { count < 2 ^ 63 }
-{
-    match outcome {
-        Ok(()) => Ok(()),
-        Err(AddFault::Memory) => Err(RestoreFault::Memory),
-        Err(AddFault::Refused | AddFault::TooLarge) => Err(bad(count)),
     }
 }
 

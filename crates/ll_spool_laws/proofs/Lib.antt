@@ -1,4 +1,5 @@
 mod AgainLemmas
+mod BytesProof
 mod CutLemmas
 mod LineLemmas
 mod RestartProof

@@ -1,5 +1,5 @@
 -- The text of a channel's spool is read again, and so is any beginning of it; and what a start publishes of it is accepted.
-use Rattle.std.specs.Prelude.{◌≡◌, ◌≤◌, ℕ, List, [], Option, None, Some, Ok, length, map, option_map, take, true}
+use Rattle.std.specs.Prelude.{◌≡◌, ◌≤◌, ℕ, List, [], Option, None, Some, Ok, length, map, option_map, slice_get, take, true}
 use Rattle.std.specs.List.{All}
 use Rattle.std.specs.Str.{is_utf8}
 use Rattle.ll_attr.specs.Attributes.{spelling}
@@ -10,10 +10,14 @@ use Rattle.ll_item.specs.declared.item.Item.{Item}
 use Rattle.ll_item.specs.declared.item.Item.TheVariants.{Part, Init, Finish, Break, End, Range, Unrange}
 use Rattle.ll_item.specs.declared.skip_kind.SkipKind.{SkipKind}
 use Rattle.ll_item.specs.declared.what.What.{What}
+use Rattle.ll_layout.specs.Held.{Each, LayoutValue, stored}
+use Rattle.ll_layout.specs.declared.stored.StoredItem.{StoredItem}
 use Rattle.ll_page.specs.Page.{text_in}
 use Rattle.ll_pieces.specs.View.{seen}
 use Rattle.ll_settings.specs.Settings.{Configuration, limit_broken}
-use Rattle.ll_spool.specs.Restored.{IsRestored}
+use Rattle.ll_spool.specs.Files.{AreHeld, AreStored, Files}
+use Rattle.ll_spool.specs.Layouts.{layouts_after}
+use Rattle.ll_spool.specs.Restored.{IsRestored, IsRestoredFrom, nth_bytes}
 use Rattle.ll_spool.specs.Spooled.{spool_in, spool_text}
 use Rattle.ll_store.specs.Media.{media}
 use Rattle.ll_verdict.specs.Events.{Event, Publish, items}
@@ -72,3 +76,24 @@ abbrev pub RestartLaw : Type 0
 RestartLaw = (c : Configuration) (events : List Event) (bytes : ℕ) (restored : List Item) (count : ℕ) → limit_broken c ≡ None → length events ≤ event_end
     → All IsHeld (items c events) → IsRestored c (take bytes (spool_text c (items c events))) (Some []) (Some restored) count
     → (n : ℕ) × AreWhole c (items c events) bytes n × AreAgain c (take n (items c events)) restored count
+
+-- ---- bytes
+
+-- of all bytes that these layouts keep, the items that were published have just those of the accepted items
+abbrev pub HaveSameBytes : List Item → List Item → List LayoutValue → Type 0
+HaveSameBytes accepted restored layouts =
+    (rendition : ℕ) (l : LayoutValue) → slice_get layouts rendition ≡ Some l → Each (λ (s : StoredItem). nth_bytes restored s.count ≡ nth_bytes accepted s.count) (stored l)
+
+-- The same start, of files that are known: it finds the layouts of the items whose lines are whole, and if the files have the bytes of the
+-- accepted items that these layouts keep, it publishes each of them with these.
+abbrev pub BytesLaw : Type 0
+BytesLaw = (c : Configuration) (events : List Event) (bytes : ℕ) (restored : List Item) (count : ℕ) (layouts : List LayoutValue) (files : Files) → limit_broken c ≡ None
+    → length events ≤ event_end → All IsHeld (items c events)
+    → IsRestoredFrom c (take bytes (spool_text c (items c events))) (Some []) (Some restored) count layouts (Some files)
+    → (n : ℕ) × AreWhole c (items c events) bytes n × AreAgain c (take n (items c events)) restored count
+    × (layouts ≡ layouts_after c (take n (items c events)))
+    × (AreStored (nth_bytes (items c events)) layouts (Some files) → HaveSameBytes (items c events) restored layouts)
+
+-- files that hold all bytes that are kept have them, whatever stands after these
+abbrev pub StoredLaw : Type 0
+StoredLaw = (of : ℕ → List ℕ) (layouts : List LayoutValue) (files : Option Files) → AreHeld of layouts files → AreStored of layouts files

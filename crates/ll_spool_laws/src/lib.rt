@@ -1,7 +1,7 @@
 //! Laws of the text of a channel's spool, each the contract of an empty function.
 #![tactic(auto)]
 
-ghost use Rattle.ll_spool_laws.specs.Laws.{CutLaw, RestartLaw, SpoolLaw};
+ghost use Rattle.ll_spool_laws.specs.Laws.{BytesLaw, CutLaw, RestartLaw, SpoolLaw, StoredLaw};
 ghost use Rattle.ll_spool_laws.specs.Worked.{WorkedSpool};
 
 /// States that the text of a spool is read as the items of its lines, with zeros in place of their bytes, if these can be read again and their texts are UTF-8.
@@ -18,6 +18,13 @@ pub fn cut_law()
 /// each of them is accepted again, and that all texts are then what they were after these items.
 pub fn restart_law()
     ensures { RestartLaw }
+{}
+
+/// States that such a start publishes, of all bytes that are kept of the items of whole lines, those of the item itself, if the files have them: those
+/// that have kept the items do.
+pub fn bytes_law()
+    ensures same { BytesLaw }
+    ensures stored { StoredLaw }
 {}
 
 /// States the values of the definitions at a worked example.

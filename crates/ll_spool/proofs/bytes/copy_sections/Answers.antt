@@ -9,7 +9,7 @@ use Rattle.ll_spool.proofs.FileLemmas.{copied_more, copied_none, rest_same, rest
 use Rattle.ll_spool.proofs.bytes.copy_sections.Goals as goal
 
 pub loop-section-init : goal.loop-section-init
-loop-section-init g c = (refl, (λ of all. copied_none c.args.rendition c.args.side of (g.D.Disk.files c.args.disk.now)), rest_same c.args.rendition (g.D.Disk.files c.args.disk.now))
+loop-section-init g c = (refl, (λ of all. copied_none c.args.rendition c.args.side of (g.D.Disk.files c.args.disk.now)), rest_same c.args.rendition (g.D.Disk.files c.args.disk.now), refl)
 
 pub loop-section-preserved : goal.loop-section-preserved
 loop-section-preserved g c =
@@ -24,6 +24,7 @@ loop-section-preserved g c =
           (source_at (λ (s : StoredSection). IsSourceOf c.args.rendition c.args.side of s.stored first) ss i d more all)
           (c.loop-section.invariant.1 of all) c.in_ok-copy.ensures.copied)),
       rest_then c.args.rendition first (g.D.Disk.files c.loop-section.disk) (g.D.Disk.files c.copy.new.disk) c.loop-section.invariant.2 c.in_ok-copy.ensures.others,
+      c.in_ok-copy.ensures.steady ∙ c.loop-section.invariant.3,
     )
 
 pub returns : goal.returns
@@ -36,4 +37,6 @@ returns g c =
       copied = λ of all. subst (λ (s : List StoredSection). IsChanged c.args.rendition c.args.side (λ file. file ++ sections_text of s) (g.D.Disk.files c.args.disk.now) (g.D.Disk.files c.loop-section.disk))
           done (c.loop-section.invariant.1 of all);
       others = c.loop-section.invariant.2;
+      steady = c.loop-section.invariant.3;
+      failed = tt;
     }

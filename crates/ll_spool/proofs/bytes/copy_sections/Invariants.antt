@@ -11,3 +11,4 @@ invariant-loop-section g l =
     × ((of : ℕ → List ℕ) → Each (λ (s : StoredSection). IsSourceOf l.rendition l.side of s.stored (g.D.Disk.files l.fn.disk)) l.sections
     → IsChanged l.rendition l.side (λ file. file ++ sections_text of (take l.section-index l.sections)) (g.D.Disk.files l.fn.disk) (g.D.Disk.files l.disk))
     × AreRestSame l.rendition (g.D.Disk.files l.fn.disk) (g.D.Disk.files l.disk)
+    × (g.D.Disk.failures l.disk ≡ g.D.Disk.failures l.fn.disk)

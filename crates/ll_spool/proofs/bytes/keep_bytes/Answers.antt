@@ -3,6 +3,7 @@ use Rattle.std.proofs.Common.{◌++◌, subst}
 use Rattle.ll_item.specs.Items.{media_of}
 use Rattle.ll_spool.specs.Files.{IsChanged}
 use Rattle.ll_spool.proofs.FileLemmas.{added_held, changed_rest, rest_then}
+use Rattle.ll_spool.proofs.LayoutLemmas.{laid_by}
 use Rattle.ll_spool.proofs.bytes.keep_bytes.Goals as goal
 
 pub returns-clause-held : goal.returns-clause-held
@@ -19,3 +20,7 @@ pub returns-clause-others : goal.returns-clause-others
 returns-clause-others g c =
     rest_then c.args.rendition (g.D.Disk.files c.args.disk.now) (g.D.Disk.files c.make_room.new.disk) (g.D.Disk.files c.append_item.new.disk) c.in_ok-make_room.ensures.others
     (changed_rest c.args.rendition c.side.result (λ file. file ++ media_of c.args.item.now) (g.D.Disk.files c.make_room.new.disk) (g.D.Disk.files c.append_item.new.disk) c.in_ok-append_item.ensures.appended)
+
+pub returns-clause-laid : goal.returns-clause-laid
+returns-clause-laid g c =
+    laid_by c.args.count c.args.item.now c.args.layout.now c.make_room.new.layout c.add.new.self c.in_ok-make_room.ensures.laid c.in_ok-add.ensures.added c.in_ok-add.ensures.window
