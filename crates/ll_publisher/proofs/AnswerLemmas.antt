@@ -1,5 +1,5 @@
 -- Lines of a publisher that are refused before the room of a channel is asked, and the answers to the others.
-use Rattle.std.proofs.Common.{◌≡◌, ◌≢◌, ◌⊎◌, ℕ, inl, inr, List, Option, Some, None, Result, Ok, Err, true, length, nat_le, arith, refl, ap, sym, subst, ◌∙◌}
+use Rattle.std.proofs.Common.{◌≡◌, ◌⊎◌, ℕ, inl, inr, List, Option, Some, None, Result, Ok, Err, true, length, nat_le, arith, refl, ap, sym, subst, ◌∙◌}
 use Rattle.std.proofs.lemmas.Option.{same_Some}
 use Rattle.std.specs.Prelude.{slice_get}
 use mathlib.Core.List.{IsPrefix}
@@ -13,7 +13,7 @@ use Rattle.ll_hub.specs.Calls.{HasSeen, IsItemRefused, IsPlace, IsPublishFault}
 use Rattle.ll_settings.proofs.ChannelLemmas.{named-within}
 use Rattle.ll_item.specs.declared.item.Item.{Item}
 use Rattle.ll_item.specs.declared.item.ItemFault.{ItemFault}
-use Rattle.ll_publish.specs.Refusals.{item_refusal, out_of_memory}
+use Rattle.ll_publish.specs.Refusals.{item_refusal}
 use Rattle.ll_publish.specs.declared.refusal.Refusal.{Refusal}
 use Rattle.ll_publish.specs.declared.refusal.Refusal.TheVariants as refusal
 use Rattle.ll_rendition.specs.declared.fault.PublishFault.{PublishFault}
@@ -28,7 +28,7 @@ use Rattle.ll_service.specs.declared.fault.LinkFault.TheVariants.{Hub}
 use Rattle.ll_hub.specs.Passes.{PassValue}
 use Rattle.ll_room.specs.StampedValue.{StampedValue}
 use Rattle.ll_publisher.specs.Heard.{IsHeardAt, heard_at, heard_in, unstamped}
-use Rattle.ll_publisher.specs.Answers.{IsAnswerAt, IsAnswerIn, IsItemOf, IsPlaceIn, IsReason, IsRuledOut, IsRuledOutIn, refused_before, refused_by, refused_in, refused_item, refused_name, refused_place}
+use Rattle.ll_publisher.specs.Answers.{IsAnswer, IsAnswerAt, IsItemIn, IsItemOf, IsPlaceIn, IsReason, IsRuledOut, IsRuledOutIn, refused_before, refused_by, refused_in, refused_item, refused_name, refused_place}
 use Rattle.ll_publisher.specs.Publishing.{IsReplyTo}
 use Rattle.ll_item.specs.Media.{media_limit}
 use Rattle.ll_publish.specs.Line as says
@@ -40,20 +40,14 @@ pub refused_item-some : (read : Result Item ItemFault) (reason : Refusal) → re
 refused_item-some (Ok item) reason e = let none : None ≡ Some reason = e in absurd (cc)
 refused_item-some (Err fault) reason e = let some : Some (item_refusal fault) ≡ Some reason = e in (fault, refl, cc)
 
--- the answer to an item, without whether a record was handed out for it
-abbrev pub told_answer : {A H F : Type 0} → Result (A × H) F → Result A F
-told_answer (Ok told) = Ok told.0
-told_answer (Err fault) = Err fault
-
 -- the answer to an item that a known channel can't read is this refusal
-pub told_once : {A H F : Type 0} (channels : List Configuration) (name text media : List ℕ) (place : ℕ) (c : Configuration) (told : Result (Result A Refusal × Option H) F)
-    (reason : Refusal)
-    → channel_of_name channels 0 name ≡ Some (place, c) → ((fault : ItemFault) → item_in c text media ≡ Err fault → told ≡ Ok (Err (item_refusal fault), None))
-    → refused_in (channel_of_name channels 0 name) text media ≡ Some reason → told_answer told ≡ Ok (Err reason)
-told_once channels name text media place c told reason k once e =
-    let known : refused_item (item_in c text media) ≡ Some reason = rw k at e in
-    let f = refused_item-some (item_in c text media) reason known in
-    ap told_answer (once f.0 f.1) ∙ ap (λ r. Ok (Err r)) f.2
+pub refused_known : {A : Type 0} (channels : List Configuration) (name text media : List ℕ) (place : ℕ) (c : Configuration) (answer : Result A Refusal)
+    → channel_of_name channels 0 name ≡ Some (place, c) → ((fault : ItemFault) → item_in c text media ≡ Err fault → answer ≡ Err (item_refusal fault))
+    → (reason : Refusal) → refused_in (channel_of_name channels 0 name) text media ≡ Some reason → answer ≡ Err reason
+refused_known channels name text media place c answer known by reason e =
+    let read : refused_item (item_in c text media) ≡ Some reason = rw known at e in
+    let f = refused_item-some (item_in c text media) reason read in
+    by f.0 f.1 ∙ ap Err f.2
 
 -- a channel that a name finds stands at its place
 pub named-at : (channels : List Configuration) (name : List ℕ) (place : ℕ) (c : Configuration) → channel_of_name channels 0 name ≡ Some (place, c)
@@ -164,6 +158,24 @@ answer-earlier c place early before history text media (Err reason) p told = λ 
     by (inr r) = inr (ruled-earlier c place early before history text media reason p r)
 
 -- ---- the allowed answers to a line
+
+-- the answer to an item in the channel named `name`
+abbrev pub IsAnswerIn : List Configuration → PassValue → (history : List Logged) → (name text media : List ℕ) → Result (StampedValue ℕ) Refusal → Type 0
+IsAnswerIn channels before history name text media answer =
+    IsAnswer (refused_in (channel_of_name channels 0 name) text media) (IsItemIn channels before history name text media) (IsRuledOutIn channels before history name text media) answer
+
+-- the answer of a known channel is one of the channel of its name
+reason-in : (channels : List Configuration) (before : PassValue) (history : List Logged) (name text media : List ℕ) (place : ℕ) (c : Configuration) (reason : Refusal)
+    → channel_of_name channels 0 name ≡ Some (place, c) → (refused_item (item_in c text media) ≡ Some reason) ⊎ IsRuledOut c place before history text media reason
+    → (refused_in (channel_of_name channels 0 name) text media ≡ Some reason) ⊎ IsRuledOutIn channels before history name text media reason
+reason-in channels before history name text media place c reason known (inl e) = inl (ap (λ found. refused_in found text media) known ∙ e)
+reason-in channels before history name text media place c reason known (inr rule) = inr (record { place = place; settings = c; known = known; rule = rule })
+
+pub answer_in : (channels : List Configuration) (before : PassValue) (history : List Logged) (name text media : List ℕ) (place : ℕ) (c : Configuration)
+    (answer : Result (StampedValue ℕ) Refusal)
+    → channel_of_name channels 0 name ≡ Some (place, c) → IsAnswerAt c place before history text media answer → IsAnswerIn channels before history name text media answer
+answer_in channels before history name text media place c (Ok mark) known item = record { place = place; settings = c; known = known; item = item }
+answer_in channels before history name text media place c (Err reason) known told = λ other. reason-in channels before history name text media place c reason known (told other)
 
 within : (channels : List Configuration) (name text media : List ℕ) → nat_le (length media) media_limit ≡ true
     → refused_before channels (says.Item name text media) ≡ refused_in (channel_of_name channels 0 name) text media

@@ -1,3 +1,5 @@
 pub mod AnswerLemmas
+pub mod ChannelLemmas
+pub mod DoorLemmas
 pub mod KeptLemmas
 pub mod ServingLemmas

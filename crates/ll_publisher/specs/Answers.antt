@@ -111,15 +111,11 @@ abbrev pub IsAnswer : Option Refusal → (StampedValue ℕ → Type 0) → (Refu
 IsAnswer before Published Ruled (Ok mark) = Published mark
 IsAnswer before Published Ruled (Err reason) = IsReason before Ruled reason
 
--- the answer to an item that is spelled `text` and has the bytes `media`, of a caller with this pass before, who has then seen the history up to
--- `history`: in the channel at `place`, and in the one named `name`
+-- the answer to an item that is spelled `text` and has the bytes `media`, in the channel at `place`, of a caller with this pass before, who has then
+-- seen the history up to `history`
 abbrev pub IsAnswerAt : Configuration → (place : ℕ) → PassValue → (history : List Logged) → (text media : List ℕ) → Result (StampedValue ℕ) Refusal → Type 0
 IsAnswerAt c place before history text media answer =
     IsAnswer (refused_item (item_in c text media)) (IsItemOf c place before history text media) (IsRuledOut c place before history text media) answer
-
-abbrev pub IsAnswerIn : List Configuration → PassValue → (history : List Logged) → (name text media : List ℕ) → Result (StampedValue ℕ) Refusal → Type 0
-IsAnswerIn channels before history name text media answer =
-    IsAnswer (refused_in (channel_of_name channels 0 name) text media) (IsItemIn channels before history name text media) (IsRuledOutIn channels before history name text media) answer
 
 -- where a rendition stands in the hub's channel named `name`, after all that was done to it up to `history`
 pub record IsPlaceIn (channels : List Configuration) (before : PassValue) (history : List Logged) (name rendition : List ℕ) (s : Standing) : Type 0 where

@@ -1,10 +1,11 @@
 //! What becomes of a publisher's line at the door of its channel.
 ghost use Rattle.std.specs.Prelude.{◌≡◌, Some, option_map};
+ghost use Rattle.ll_publisher.specs.Channels.{channel_in};
 ghost use Rattle.ll_publisher.specs.Doors as spec;
-ghost use Rattle.ll_publisher.specs.Doors.{origin, passage_at, passage_by};
+ghost use Rattle.ll_publisher.specs.Doors.{origin, passage_by, secret_at};
 ghost use Rattle.ll_publisher.specs.Passages.{passage_of};
 ghost use Rattle.ll_publish.specs.Meaning.{meant};
-ghost use Rattle.ll_settings.specs.Channels.{channel_of_name};
+ghost use Rattle.ll_settings.specs.Settings.{Configuration};
 
 use ll_door::{Digest, secret_in};
 use ll_hub::Ledgers;
@@ -41,35 +42,36 @@ fn is_open(opened: &[usize], channel: usize) -> bool
     opened.iter().any(|each| *each == channel)
 }
 
-/// Returns what becomes of `line` on a connection that has opened the channels at the places `opened`.
+/// Returns what becomes of `line`, which is for the channel at place `channel`, on a connection that has opened the channels at the places
+/// `opened`.
+#[tactic(auto, using(crate::proofs::DoorLemmas::passage_of_item, crate::proofs::DoorLemmas::passage_of_place))]
 pub(crate) fn decide<L: Ledgers, C, G, K, D, B, R>(
     service: &Service<'_, L, C, G, K, D, B, R>,
     opened: &[usize],
+    channel: usize,
     line: &Line<'_>,
 ) -> Passage
-    ensures { passage_of result ≡ spec.passage (origin service.now.hub.now service.now.secrets.now) opened.now (meant line.now) }
+    ensures { (settings : Configuration) → channel_in service.now.hub.now (meant line.now) ≡ Some (channel, settings)
+        → passage_of result ≡ spec.passage (origin service.now.hub.now service.now.secrets.now) opened.now (meant line.now) }
 {
     match line {
-        Line::Item(name, text, _) => at_door(service, opened, name, secret_in(text)),
-        Line::At(name, _) => at_door(service, opened, name, None),
+        Line::Item(_, text, _) => at_door(service, opened, channel, secret_in(text)),
+        Line::At(..) => at_door(service, opened, channel, None),
         Line::Bad | Line::TooLong | Line::MediaTooLong => Passage::Passes,
     }
 }
 
-/// Returns what becomes of a line for the channel named `name` that gives the word `word`, or none.
+/// Returns what becomes of a line for the channel at place `channel` that gives the word `word`, or none.
 fn at_door<L: Ledgers, C, G, K, D, B, R>(
     service: &Service<'_, L, C, G, K, D, B, R>,
     opened: &[usize],
-    name: &str,
+    channel: usize,
     word: Option<&str>,
 ) -> Passage
-    ensures { passage_of result ≡ passage_at service.now.secrets.now opened.now (option_map (λ w. w.now) word.entry) (channel_of_name service.now.hub.now 0 name.now) }
+    ensures { passage_of result ≡ passage_by (secret_at service.now.secrets.now channel) (option_map (λ w. w.now) word.entry) (spec.is_open opened.now channel) channel }
 {
-    match service.hub.find(name) {
-        Some((channel, _)) => match service.secrets.get(channel) {
-            Some(Some(digest)) => passage_with(digest, word, opened, channel),
-            _ => Passage::Passes,
-        },
-        None => Passage::Passes,
+    match service.secrets.get(channel) {
+        Some(Some(digest)) => passage_with(digest, word, opened, channel),
+        _ => Passage::Passes,
     }
 }

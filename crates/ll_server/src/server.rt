@@ -9,7 +9,7 @@ use ll_files::{Log, NewFiles, Records, SpoolFiles, Unusable};
 use ll_hub::{Blanks, Hub, HubFault, Ledgers, Pass};
 use ll_notes::Notes;
 use ll_opening::{Doors, IDLE, Listeners, Spools, Stop, restore_all, serve_status};
-use ll_serve::{Bells, HubBell, Role, Service, serve_links, serve_players};
+use ll_serve::{Bells, HubBell, Role, Service, SpoolLocks, serve_links, serve_players};
 use ll_settings::Settings;
 use ll_socket::Listener;
 use ll_status::StatusPort;
@@ -293,6 +293,30 @@ fn pollers<R: Threads>(rt: &R, workers: Workers) -> usize
     processors.min(workers.count).max(1)
 }
 
+/// Returns what the connections of `server` are served with: the channels of `hub`, whose full records go to `sink`, whose spools are `spools`,
+/// and whose secrets are those of `doors`; `bell` learns of replies that became ready.
+fn service_of<'s, 'a, L: Ledgers, R>(
+    server: &'s Server<'a, R>,
+    hub: &'s Hub<L>,
+    bell: &'s HubBell<'s>,
+    sink: &'s &'s Records<'a, R>,
+    spools: &'s Spools<'a, R>,
+    doors: &'s Doors,
+) -> Serving<'s, 'a, L, R> {
+    let locks = SpoolLocks::new(spools);
+    Service {
+        rt: server.rt,
+        alloc: server.alloc,
+        clock: &server.watch,
+        gate: &server.numbers,
+        sink,
+        bell,
+        hub,
+        spools: locks,
+        secrets: &doors.secrets,
+    }
+}
+
 /// The passes with which connections were served, and the fault if they aren't all there.
 type Served<L> = (Vec<Pass<L>>, Option<HubFault>);
 
@@ -318,17 +342,8 @@ impl<
             listeners,
         } = opened;
         let bell = HubBell { bells };
-        let service = Service {
-            rt: self.rt,
-            alloc: self.alloc,
-            clock: &self.watch,
-            gate: &self.numbers,
-            sink: &&self.records,
-            bell: &bell,
-            hub,
-            spools: &spools,
-            secrets: &doors.secrets,
-        };
+        let records = &self.records;
+        let service = service_of(self, hub, &bell, &records, &spools, doors);
         let Listeners {
             mut players,
             mut publishers,

@@ -8,7 +8,7 @@ pub enum LinkFault {
     Read,
     /// A write failed.
     Write,
-    /// The pass is another hub's, or the hub can't hand out a full record.
+    /// The pass is another hub's, or the hub can't hand out a full record, or the spool at a channel's place is another channel's.
     Hub,
     /// Out of memory for its bytes or for an answer.
     Memory,

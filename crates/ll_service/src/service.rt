@@ -1,16 +1,19 @@
-//! What connections are served with, and the hand-out of a full record.
-ghost use Rattle.std.specs.Prelude.{◌≡◌, IfOk};
+//! What connections are served with, the hand-out of a full record, and the turn of a publisher.
+ghost use Rattle.std.specs.Prelude.{◌≡◌, ◌<◌, ◌≤◌, IfOk, IsErr, MatchOption, OnOk};
 ghost use Rattle.ll_hub.specs.Calls.{HasSeen};
 ghost use Rattle.ll_service.specs.Faults.{IsOwn};
+ghost use Rattle.ll_service.specs.HandOuts.{IsHandedOver};
 
 use crate::fault::LinkFault;
+use crate::turn::{SpoolLocks, Turn};
 use ll_counts::Gate;
 use ll_door::Digest;
 use ll_hub::{Hub, Ledgers, Pass, Sink};
-use ll_spool::Spool;
+use ll_settings::Settings;
+use ll_spool::Disk;
 use std::alloc::Global;
 use std::marker::Model;
-use std::sync::{Mutex, MutexGuard, Wait};
+use std::sync::Wait;
 
 /// What connections are served with. All connections of a hub share it.
 #[derive(Drop)]
@@ -29,13 +32,13 @@ pub struct Service<'a, L: Ledgers, C, G, K, D, B, R> {
     pub bell: &'a B,
     /// The channels.
     pub hub: &'a Hub<L>,
-    /// The channels' spools, in their order, or none if no items are kept.
-    pub spools: &'a [Mutex<Spool<D>>],
+    /// The locks of the channels' spools, in the channels' order, or none if no items are kept.
+    pub spools: SpoolLocks<'a, D>,
     /// The digests of the channels' secrets, in their order; further channels have none.
     pub secrets: &'a [Option<Digest>],
 }
 
-/// A token: the record of the channel at place `channel` was handed out. Only [`Service::hand_out`] makes one.
+/// A token: the record of the channel at place `channel` was handed to the sink. Only [`Service::hand_out`] makes one.
 #[derive(Drop)]
 pub struct HandedOut {
     channel: usize,
@@ -49,17 +52,13 @@ impl Model for HandedOut {
     ghost view = { λ h. h.channel };
 }
 
-/// A token: a channel has no spool. Only [`Service::turn`] makes one.
-#[derive(Clone, Copy)]
-pub struct NoSpool {
-    seen: (),
-}
-
 impl<L: Ledgers, C, G: Gate, K: Sink, D, B, R: Wait> Service<'_, L, C, G, K, D, B, R> {
     /// Hands the full record of the channel at place `channel` to the sink. Its caller, with `pass`, has then seen that.
+    #[tactic(auto, using(crate::proofs::HandOutLemmas::handed_over))]
     pub fn hand_out(&self, pass: &mut Pass<L>, channel: usize) -> Result<HandedOut, LinkFault>
         ensures own { IsOwn result }
         ensures place { IfOk result (λ handed. handed ≡ channel) }
+        ensures handed { OnOk result (IsHandedOver K.taken self.now.hub.now channel pass.old.history pass.new.history self.now.sink.now) }
         ensures seen { HasSeen pass.old pass.new }
     {
         self.gate.filled(channel);
@@ -73,12 +72,23 @@ impl<L: Ledgers, C, G: Gate, K: Sink, D, B, R: Wait> Service<'_, L, C, G, K, D, 
     }
 }
 
-impl<L: Ledgers, C, G, K, D, B, R: Wait> Service<'_, L, C, G, K, D, B, R> {
-    /// Takes the turn to publish in the channel named `name`; fails if it has no spool. Who has the turn takes the channel's lock after it,
-    /// so items are kept in the order in which they are accepted; players never take it.
-    pub fn turn(&self, name: &str) -> Result<MutexGuard<'_, Spool<D>>, NoSpool> {
-        let (channel, _) = self.hub.find(name).ok_or(NoSpool { seen: () })?;
-        let spool = self.spools.get(channel).ok_or(NoSpool { seen: () })?;
-        Ok(spool.lock(self.rt))
+impl<L: Ledgers, C, G, K, D: Disk, B, R: Wait> Service<'_, L, C, G, K, D, B, R> {
+    /// Takes the turn to publish in the channel at place `channel`, whose settings are `settings`: the lock of its spool, unless it has none.
+    ///
+    /// # Errors
+    ///
+    /// Hub, if the spool at that place is of other settings. That is never so: no proof sees what lies under a lock, so this is checked.
+    pub fn turn<'t>(
+        &'t self,
+        channel: usize,
+        settings: &'t Settings,
+    ) -> Result<Turn<'t, D>, LinkFault>
+        ensures own { IsOwn result }
+        ensures place { IfOk result (λ turn. turn.place ≡ channel) }
+        ensures settings { IfOk result (λ turn. turn.settings ≡ settings.now) }
+        ensures spool { IfOk result (λ turn. MatchOption turn.spool (self.now.spools ≤ channel) (λ spool. spool.settings ≡ settings.now)) }
+        ensures unmatched { IsErr result → channel < self.now.spools }
+    {
+        self.spools.turn(self.rt, channel, settings)
     }
 }
