@@ -1,4 +1,7 @@
 //! A player of a poller: its connection, and what was reported of it.
+ghost use Rattle.std.specs.Prelude.{◌≡◌, ◌<◌, ◌+◌, None};
+ghost use Rattle.std.specs.Bool.{Decides};
+
 /// A player's connection in a poller.
 pub(crate) struct Player<T: Drop> {
     pub(crate) connection: T,
@@ -41,7 +44,9 @@ impl<T: Drop> Player<T> {
     }
 
     /// Returns whether it was idle for more than `limit` seconds before second `now`. One whose request is held isn't idle.
-    pub(crate) fn is_idle(&self, now: u64, limit: u64) -> bool {
+    pub(crate) fn is_idle(&self, now: u64, limit: u64) -> bool
+        ensures { Decides result ((self.now.held ≡ None) × (self.now.since + limit < now)) }
+    {
         self.held.is_none() && now.saturating_sub(self.since) > limit
     }
 

@@ -168,7 +168,7 @@ impl<'a, T: Talk, R: Wait + time::Clock> Poller<'a, T, R> {
         self.settle(key, phase);
     }
 
-    /// Notes what the player under `key` waits for in `phase`. Closes it if it has ended.
+    /// Notes what the player under `key` waits for in `phase`. Closes it if it has ended, or was cut off.
     fn settle(&mut self, key: usize, phase: Phase) {
         let Some(player) = self.players.get_mut(key) else {
             return;
@@ -183,7 +183,7 @@ impl<'a, T: Talk, R: Wait + time::Clock> Poller<'a, T, R> {
             }
             Phase::Unsent => {}
             Phase::Held => self.hold(key),
-            Phase::Over => self.remove(key),
+            Phase::Over | Phase::Cut => self.remove(key),
         }
     }
 

@@ -12,8 +12,10 @@ pub enum Phase {
     Unsent,
     /// The reply to its request that is held.
     Held,
-    /// It has ended, perhaps by a fault.
+    /// It has ended.
     Over,
+    /// A fault has cut it off.
+    Cut,
 }
 
 /// A player's connection, with what serves it. No step waits for its link or for a reply.

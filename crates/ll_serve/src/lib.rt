@@ -11,6 +11,6 @@ pub use ll_device::{Link, Role, Source, TryLink};
 pub use ll_hub::Bell;
 pub use ll_notes::{Addressed, Notes};
 pub use ll_pollers::Bells;
-pub use ll_service::{Gate, LinkFault, Service};
+pub use ll_service::{Gate, LinkFault, Service, SpoolLocks};
 pub use players::{HubBell, serve_players};
 pub use serve::{serve_link, serve_link_within};

@@ -244,7 +244,14 @@ fn with_gate<'a, L: Ledgers, C, G, H, K, D, B, R>(
     service: &Service<'a, L, C, G, K, D, B, R>,
     gate: &'a H,
 ) -> Service<'a, L, C, H, K, D, B, R>
+    ensures rt { result.rt.now ≡ service.now.rt.now }
+    ensures alloc { result.alloc ≡ service.now.alloc }
+    ensures clock { result.clock.now ≡ service.now.clock.now }
+    ensures gate { result.gate.now ≡ gate.now }
+    ensures sink { result.sink.now ≡ service.now.sink.now }
+    ensures bell { result.bell.now ≡ service.now.bell.now }
     ensures hub { result.hub.now ≡ service.now.hub.now }
+    ensures spools { result.spools ≡ service.now.spools }
     ensures secrets { result.secrets.now ≡ service.now.secrets.now }
 {
     Service {
@@ -255,7 +262,7 @@ fn with_gate<'a, L: Ledgers, C, G, H, K, D, B, R>(
         sink: service.sink,
         bell: service.bell,
         hub: service.hub,
-        spools: service.spools,
+        spools: service.spools.again(),
         secrets: service.secrets,
     }
 }

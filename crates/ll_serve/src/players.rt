@@ -1,7 +1,9 @@
 //! Players, each served by one of a few pollers from its first byte to its last.
-ghost use Rattle.std.specs.Prelude.{◌≡◌, ◌<◌, ◌≤◌, IfErr, IfOk, length};
+ghost use Rattle.std.specs.Prelude.{◌≡◌, ◌<◌, ◌≤◌, IfErr, IfOk, IsErr, Ok, length};
 ghost use Rattle.std.specs.List.{All};
 ghost use Rattle.ll_hub.specs.Passes.{new_pass};
+ghost use Rattle.ll_player.specs.Connections.{ConnectionValue, WaitsFor};
+ghost use Rattle.ll_serve.specs.Phases.{IsPhase};
 
 use ll_device::{Source, TryLink};
 use ll_hub::{Bell, Clock, Hub, HubFault, Ledgers, Pass, Sink};
@@ -138,26 +140,31 @@ impl<L: Ledgers, P: TryLink, C: Clock, G: Gate, K: Sink, D, B: Bell, R: Wait> Ta
     }
 
     fn readable(&mut self, pass: &mut Pass<L>) -> Phase {
-        phase_after(self.connection.readable(self.service, pass))
+        phase_after(&self.connection.readable(self.service, pass))
     }
 
     fn writable(&mut self, pass: &mut Pass<L>) -> Phase {
-        phase_after(self.connection.writable(self.service, pass))
+        phase_after(&self.connection.writable(self.service, pass))
     }
 
     fn ready(&mut self, pass: &mut Pass<L>) -> Phase {
-        phase_after(self.connection.ready(self.service, pass))
+        phase_after(&self.connection.ready(self.service, pass))
     }
 }
 
-/// Returns what a connection waits for after a step of it; `step` is its result.
-fn phase_after(step: Result<Step, LinkFault>) -> Phase {
+/// Returns what a connection waits for after a step of it, as a poller says it; `step` is its result.
+fn phase_after(step: &Result<Step, LinkFault>) -> Phase
+    ensures waits { IfOk step.now (λ step. (c : ConnectionValue) → WaitsFor c step → IsPhase c result) }
+    ensures over { step.now ≡ Ok Step.Over → result ≡ Phase.Over }
+    ensures cut { (result ≡ Phase.Cut → IsErr step.now) × (IsErr step.now → result ≡ Phase.Cut) }
+{
     match step {
         Ok(Step::Idle) => Phase::Idle,
         Ok(Step::More) => Phase::More,
         Ok(Step::Unsent) => Phase::Unsent,
         Ok(Step::Held) => Phase::Held,
-        Ok(Step::Over) | Err(_) => Phase::Over,
+        Ok(Step::Over) => Phase::Over,
+        Err(_) => Phase::Cut,
     }
 }
 
