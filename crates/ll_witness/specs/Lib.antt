@@ -1,0 +1,3 @@
+-- The definitions of `ll_witness`, by files.
+pub mod Disks
+pub mod Sources
