@@ -90,22 +90,25 @@ impl<'a, L: Ledgers, K: Sink + Drop, R: Eprint + Wait + Clock> Restored<'a, L, K
     }
 
     /// Publishes the items of the spool whose files are `files`, and says on standard error how many they are, or which line can't stand.
-    fn restore(&mut self, files: SpoolFiles<'a, R>) -> Result<Spool<SpoolFiles<'a, R>>, Stop> {
-        let (rt, hub) = (self.rt, self.hub);
+    fn restore(&mut self, mut files: SpoolFiles<'a, R>) -> Result<Spool<SpoolFiles<'a, R>>, Stop> {
+        let (rt, alloc, hub) = (self.rt, self.alloc, self.hub);
         let Some((place, settings)) = hub.find(files.channel()) else {
             return Err(Stop::Spool(4));
         };
         self.place = place;
         let channel = settings.channel();
-        let Ok(text) = files.text(self.alloc) else {
+        let Ok(text) = files.text(alloc) else {
             return Err(Stop::Spool(4));
         };
-        let restored = restore(self.alloc, settings, &text, files, self);
+        let restored = restore(alloc, settings, &text, &mut files, self);
         drop(text);
         match restored {
-            Ok((spool, count)) => {
-                let _ = eprintln!(rt; "llhls: spool: {channel}: {count} items");
-                Ok(spool)
+            Ok(restored) => {
+                let Ok(own) = settings.copy(alloc) else {
+                    return Err(Stop::Memory);
+                };
+                let _ = eprintln!(rt; "llhls: spool: {channel}: {} items", restored.count());
+                Ok(Spool::new(alloc, own, files, restored))
             }
             Err(RestoreFault::Line(line)) => {
                 let _ = eprintln!(rt; "llhls: spool: {channel} {line}\n  {}", advice_on(line));

@@ -1,11 +1,14 @@
 -- Where the first line of a text ends, and which item a line spells.
-use Rattle.std.proofs.Common.{◌≡◌, ◌++◌, append_assoc, ℕ, ◌+◌, ◌-◌, ◌<◌, ◌==◌, List, [], ◌∷◌, Bool, true, false, cond, Some, None, Result, Ok, Err, IfOk, IsErrOf, refl, ap, sym, ◌∙◌, length, get_or, take, drop, option_and_then, arith}
+use Rattle.std.proofs.Common.{◌≡◌, ◌++◌, append_assoc, ℕ, ◌+◌, ◌-◌, ◌<◌, ◌==◌, List, [], ◌∷◌, Bool, true, false, cond, Option, Some, None, Result, Ok, Err, IfOk, IsErrOf, OnErr, refl, ap, subst, sym, ◌∙◌, length, get_or, take, drop, option_and_then, arith}
 use Rattle.std.proofs.lemmas.Bool.Decides.{nat_tests}
 use Rattle.std.proofs.lemmas.List.{drop_more, take-append-drop, take_rest}
 use Rattle.std.proofs.lemmas.List.Elements.{All-from_get_or}
 use Rattle.std.proofs.lemmas.List.Splits.{slice_split_first, slice_split_none}
 use Rattle.std.proofs.lemmas.List.Sums.{position_or_len_is}
+use Rattle.std.proofs.KnownBytes.{Appends-nil}
+use Rattle.std.specs.Io.KnownBytes.{Appends}
 use Rattle.std.specs.List.{position_or_len}
+use Rattle.ll_device.specs.Written.{AppendsPrefix}
 use Rattle.std.proofs.lemmas.Str.{IsUtf8-from_is_utf8, is_utf8-from_IsUtf8}
 use Rattle.std.specs.Str.{IsUtf8, is_utf8}
 use Rattle.memchr.specs.Find.{IsFirstByte, is_byte}
@@ -87,3 +90,14 @@ no-item found = Err found
 
 pub bad-line : (number wanted : ℕ) (found : RestoreFault) → found ≡ fault.Line wanted → IsErrOf (no-item found) (fault.Line number) → number ≡ wanted
 bad-line number wanted found is e = let same : no-item (fault.Line wanted) ≡ no-item (fault.Line number) = ap no-item (sym is) ∙ e in cc
+
+-- nothing was written
+pub uncut : (old new : Option (List ℕ)) (text : List ℕ) → new ≡ old → AppendsPrefix old new text
+uncut old new text e = ([], text, refl, subst (λ (x : Option (List ℕ)). Appends old x []) (sym e) (Appends-nil old))
+
+-- a prefix of a line was written, if a call failed, to files that were the same
+pub recut : {T E : Type 0} (r : Result T E) (old mid new : Option (List ℕ)) (text line : List ℕ) → mid ≡ old → text ≡ line → AppendsPrefix mid new text
+    → OnErr r (AppendsPrefix old new line)
+recut (Ok v) old mid new text line same is cut = tt
+recut (Err e) old mid new text line same is cut =
+    subst (λ (t : List ℕ). AppendsPrefix old new t) is (subst (λ (m : Option (List ℕ)). AppendsPrefix m new text) same cut)

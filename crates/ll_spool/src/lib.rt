@@ -15,5 +15,5 @@ mod survey;
 
 pub use disk::{Disk, Lost};
 pub use fault::{KeepFault, NotKept, RestoreFault};
-pub use restoring::{Accepts, restore};
+pub use restoring::{Accepts, Restored, restore};
 pub use spool::{Kept, Spool};

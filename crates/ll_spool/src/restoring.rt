@@ -12,7 +12,6 @@ use crate::filled::{filled, item_len};
 use crate::line::{bad, read_line};
 use crate::lines::{Lines, cut_line};
 use crate::placed::{PlacedItem, place_of, stored_in};
-use crate::spool::Spool;
 use crate::survey::{begun, survey};
 use ll_entry::settings_text;
 use ll_item::{Item, Media, Payload};
@@ -30,60 +29,46 @@ pub trait Accepts {
         ensures accepted { IfOk result (λ found. IfSome found (λ n. accepted self.new ≡ accepted_after (accepted self.old) (item ∷ []))) };
 }
 
-/// Publishes the items of `text`, the text of the spool of a channel of `settings` whose files are `disk`, with the bytes that these have of
-/// them. Returns the spool, which goes on after them, and their number.
-pub fn restore<D: Disk, A: Accepts>(
-    alloc: Global,
-    settings: &Settings,
-    text: &[u8],
-    mut disk: D,
-    channel: &mut A,
-) -> Result<(Spool<D>, u64), RestoreFault>
-    ensures restored { IfOk result (λ r.
-        IsRestoredFrom settings.now text.now (A.accepted channel.old) (A.accepted channel.new) r.1 r.0.layouts.items (D.files disk)) }
-    ensures whole { IfOk result (λ r. IsWhole text.now r.0.whole) }
-    ensures settings { IfOk result (λ r. r.0.settings ≡ settings.now) }
-    ensures going { IfOk result (λ r. r.0.failed ≡ false) }
-    ensures lines { IfOk result (λ r. D.lines r.0.disk ≡ D.lines disk) }
-    ensures files { IfOk result (λ r. D.files r.0.disk ≡ D.files disk) }
-    ensures steady { IfOk result (λ r. D.failures r.0.disk ≡ D.failures disk) }
-{
-    let own = settings.copy(alloc)?;
-    match publish_text(alloc, settings, text, &mut disk, channel) {
-        Ok(done) => {
-            let spool = Spool::new(alloc, own, disk, done.layouts, done.whole);
-            Ok((spool, done.count))
-        }
-        Err(fault) => Err(fault),
-    }
-}
-
-/// What is known of a spool once its items are published: where the bytes of each rendition are, how many bytes its whole lines have, and
+/// What is known of a spool whose items were published again: where the bytes of each rendition are, how many bytes its whole lines have, and
 /// how many items it has.
 #[derive(Drop)]
-struct Done {
-    layouts: Vec<Layout>,
-    whole: u64,
+pub struct Restored {
+    pub(crate) layouts: Vec<Layout>,
+    pub(crate) whole: u64,
     count: u64,
 }
 
-/// Publishes the items of `text`, whose bytes are in `disk`.
-fn publish_text<D: Disk, A: Accepts>(
+impl Restored {
+    /// Returns the number of items.
+    pub fn count(&self) -> u64
+        ensures { result ≡ self.now.count }
+    {
+        self.count
+    }
+}
+
+/// Publishes the items of `text`, the text of the spool of a channel of `settings` whose files are `disk`, with the bytes that these have of
+/// them. Changes no file, whatever it returns.
+///
+/// # Errors
+///
+/// `Line` with the number of a line that can't stand; `Memory`.
+pub fn restore<D: Disk, A: Accepts>(
     alloc: Global,
     settings: &Settings,
     text: &[u8],
     disk: &mut D,
     channel: &mut A,
-) -> Result<Done, RestoreFault>
-    ensures restored { IfOk result (λ d.
-        IsRestoredFrom settings.now text.now (A.accepted channel.old) (A.accepted channel.new) d.count d.layouts.items (D.files disk.old)) }
-    ensures whole { IfOk result (λ d. IsWhole text.now d.whole) }
+) -> Result<Restored, RestoreFault>
+    ensures restored { IfOk result (λ r.
+        IsRestoredFrom settings.now text.now (A.accepted channel.old) (A.accepted channel.new) r.count r.layouts.items (D.files disk.old)) }
+    ensures whole { IfOk result (λ r. IsWhole text.now r.whole) }
     ensures lines { D.lines disk.new ≡ D.lines disk.old }
     ensures files { D.files disk.new ≡ D.files disk.old }
     ensures steady { OnOk result (D.failures disk.new ≡ D.failures disk.old) }
 {
     let Some((first, lines)) = cut_line(text) else {
-        return Ok(Done {
+        return Ok(Restored {
             layouts: begun(alloc, settings)?,
             whole: 0,
             count: 0,
@@ -95,7 +80,7 @@ fn publish_text<D: Disk, A: Accepts>(
     }
     let (layouts, count, rest) = publish_lines(alloc, settings, lines, disk, channel)?;
     let whole = text.len().saturating_sub(rest) as u64;
-    Ok(Done {
+    Ok(Restored {
         layouts,
         whole,
         count,

@@ -2,6 +2,7 @@
 ghost use Rattle.std.specs.Prelude.{◌≡◌, ◌+◌, ◌++◌, ◌∷◌, [], Err, IfErr, IfOk, List, OnErr, OnOk, Some, false, is_err, length, true, ℕ};
 ghost use Rattle.std.specs.Io.KnownBytes.{Appends};
 ghost use Rattle.std.specs.Option.{option_map};
+ghost use Rattle.ll_device.specs.Written.{AppendsPrefix};
 ghost use Rattle.ll_entry.specs.Leads.{with_end};
 ghost use Rattle.ll_entry.specs.SettingsLine.{settings_line};
 ghost use Rattle.ll_item.specs.Items.{media_of as bytes_of};
@@ -19,6 +20,7 @@ use crate::bytes::keep_bytes;
 use crate::disk::{Disk, Lost};
 use crate::fault::{KeepFault, NotKept};
 use crate::line::push_line;
+use crate::restoring::Restored;
 use ll_entry::settings_text;
 use ll_item::Item;
 use ll_layout::{Layout, Side};
@@ -56,26 +58,20 @@ impl Model for Kept {
 }
 
 impl<D: Disk> Spool<D> {
-    /// Returns the spool of a channel of `settings`, whose items so far have led to `layouts`, and whose whole lines have `whole` bytes.
-    pub(crate) fn new(
-        alloc: Global,
-        settings: Settings,
-        disk: D,
-        layouts: Vec<Layout>,
-        whole: u64,
-    ) -> Spool<D>
+    /// Returns the spool of a channel of `settings` whose files are `disk`, and of which `restored` is known. It goes on after its items.
+    pub fn new(alloc: Global, settings: Settings, disk: D, restored: Restored) -> Spool<D>
         ensures disk { result.disk ≡ disk }
-        ensures layouts { result.layouts ≡ layouts }
+        ensures layouts { result.layouts ≡ restored.layouts }
         ensures settings { result.settings ≡ settings }
-        ensures whole { result.whole ≡ whole }
+        ensures whole { result.whole ≡ restored.whole }
         ensures going { result.failed ≡ false }
     {
         Spool {
             alloc,
             settings,
             disk,
-            layouts,
-            whole,
+            layouts: restored.layouts,
+            whole: restored.whole,
             failed: false,
         }
     }
@@ -157,9 +153,11 @@ impl<D: Disk> Spool<D> {
     /// # Errors
     ///
     /// `Earlier` once an item wasn't kept, and nothing changes then. Else `Lost` if a call of the disk fails, and without such a call `Memory`,
-    /// or `Refused` if the item can't be kept.
+    /// or `Refused` if the item can't be kept. The lines of earlier items stay, and at most a prefix of the item's own follows them.
+    #[tactic(auto, using(crate::proofs::LineLemmas::uncut))]
     pub fn keep(&mut self, count: u64, item: &Item) -> Result<Kept, NotKept>
         ensures kept { OnOk result (Appends (D.lines self.old.disk) (D.lines self.new.disk) (spooled_line self.old.settings count item.now)) }
+        ensures cut { OnErr result (AppendsPrefix (D.lines self.old.disk) (D.lines self.new.disk) (spooled_line self.old.settings count item.now)) }
         ensures held { (of : ℕ → List ℕ) → AreHeld of self.old.layouts.items (D.files self.old.disk) → of count ≡ bytes_of item.now
             → OnOk result (AreHeld of self.new.layouts.items (D.files self.new.disk)) }
         ensures laid { (items : List ItemValue) → self.old.layouts.items ≡ layouts_after self.old.settings items → count ≡ length items + 1
@@ -185,8 +183,10 @@ impl<D: Disk> Spool<D> {
     }
 
     /// Writes the bytes of `item`, the channel's item of the number `count`, and then its line.
+    #[tactic(auto, using(crate::proofs::LineLemmas::uncut))]
     fn write(&mut self, count: u64, item: &Item) -> Result<Kept, KeepFault>
         ensures kept { OnOk result (Appends (D.lines self.old.disk) (D.lines self.new.disk) (spooled_line self.old.settings count item.now)) }
+        ensures cut { OnErr result (AppendsPrefix (D.lines self.old.disk) (D.lines self.new.disk) (spooled_line self.old.settings count item.now)) }
         ensures held { (of : ℕ → List ℕ) → AreHeld of self.old.layouts.items (D.files self.old.disk) → of count ≡ bytes_of item.now
             → OnOk result (AreHeld of self.new.layouts.items (D.files self.new.disk)) }
         ensures laid { (items : List ItemValue) → self.old.layouts.items ≡ layouts_after self.old.settings items → count ≡ length items + 1

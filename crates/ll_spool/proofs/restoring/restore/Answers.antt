@@ -1,7 +1,7 @@
 -- The items of a text whose first line is that of the settings, or of one without a whole line.
 use Rattle.std.proofs.Common.{rules, ◌∙◌}
 use Rattle.ll_spool.proofs.RestoreLemmas.{restored_nothing, restored_same, whole_lines, whole_nothing}
-use Rattle.ll_spool.proofs.restoring.publish_text.Goals as goal
+use Rattle.ll_spool.proofs.restoring.restore.Goals as goal
 
 pub returns-in_default-clause-restored : goal.returns-in_default-clause-restored
 returns-in_default-clause-restored g c =
