@@ -1,8 +1,9 @@
 //! A player's request, as the hub answers it.
-ghost use Rattle.std.specs.Prelude.{◌≡◌, Err, IfErr, IfOk, MatchResult, OnErr, Some};
+ghost use Rattle.std.specs.Prelude.{◌≡◌, ◌≢◌, Err, IfErr, IfOk, MatchResult, None, OnErr, Some};
 ghost use Rattle.ll_hub.specs.Calls.{HasSeen, IsAskedOf};
 ghost use Rattle.ll_player.specs.Asking.{IsHeldNow, IsToldNow, IsUnmade, unavailable_by};
 ghost use Rattle.ll_service.specs.Faults.{IsOwn};
+ghost use Rattle.ll_settings.specs.Channels.{channel_of_name};
 
 use crate::held::{Held, Waiting};
 use ll_counts::Gate;
@@ -30,6 +31,7 @@ pub(crate) fn ask<'a, L: Ledgers, C: Clock, G: Gate, K: Sink, D, B: Bell, R: Wai
         (λ held. IsHeldNow (C.shows service.now.clock.now) service.now.hub.now want pass.old pass.new held.claim)) }
     ensures hub { IfOk result (λ told. IfErr told (λ held. held.hub.now ≡ service.now.hub.now)) }
     ensures unasked { OnErr result (HasSeen pass.old pass.new) }
+    ensures known { OnErr result (channel_of_name service.now.hub.now 0 want.channel ≢ None) }
 {
     let Some((channel, _)) = service.hub.find(want.channel()) else {
         return Ok(Ok(Answer::Target(TargetFault::NotFound)));

@@ -67,6 +67,6 @@ remembered_without o caller line why none =
 -- ---- a line for a channel
 
 -- the token for the channel at a place is one for the line's channel
-pub token_in : (channels : List Configuration) (line : says.Line) (place : ℕ) (c : Configuration) (told : Result Success Refusal) (t : Option Token)
-    → channel_in channels line ≡ Some (place, c) → HasToken (Some place) told t → HasToken (place_in channels line) told t
-token_in channels line place c told t known has = subst (λ found. HasToken (option_map (λ (f : ℕ × Configuration). f.0) found) told t) (sym known) has
+pub token_in : (spools : ℕ) (channels : List Configuration) (line : says.Line) (place : ℕ) (c : Configuration) (told : Result Success Refusal) (t : Option Token)
+    → channel_in channels line ≡ Some (place, c) → HasToken spools (Some place) told t → HasToken spools (place_in channels line) told t
+token_in spools channels line place c told t known has = subst (λ found. HasToken spools (option_map (λ (f : ℕ × Configuration). f.0) found) told t) (sym known) has

@@ -26,12 +26,13 @@ OnAccepted (Ok (Standing s)) IsSo = ⊤
 OnAccepted (Ok Opened) IsSo = ⊤
 OnAccepted (Err reason) IsSo = ⊤
 
--- the token says that the item of the number `count` of the channel at `place` was kept, or that this channel has no spool
-abbrev pub IsTokenOf : Option ℕ → ℕ → Option Token → Type 0
-IsTokenOf (Some place) count (Some (token.Settled settled)) = settled ≡ record { place = place; count = count }
-IsTokenOf (Some place) count (Some (token.NotKept fault)) = ⊥
-IsTokenOf (Some place) count None = ⊥
-IsTokenOf None count t = ⊥
+-- the token says that the item of the number `count` of the channel at `place` was kept, or that this channel has no spool, by a server that has
+-- the spools of `spools` channels
+abbrev pub IsTokenOf : (spools : ℕ) → Option ℕ → ℕ → Option Token → Type 0
+IsTokenOf spools (Some place) count (Some (token.Settled settled)) = settled ≡ record { spools = spools; place = place; count = count }
+IsTokenOf spools (Some place) count (Some (token.NotKept fault)) = ⊥
+IsTokenOf spools (Some place) count None = ⊥
+IsTokenOf spools None count t = ⊥
 
 -- the token says that a spool didn't keep an item
 abbrev pub IsUnkept : Option Token → Type 0
@@ -39,10 +40,11 @@ IsUnkept (Some (token.Settled settled)) = ⊥
 IsUnkept (Some (token.NotKept fault)) = ⊤
 IsUnkept None = ⊥
 
--- what an answer to a line for the channel at `place`, or for none, is sent with: the token of the item that it accepts, or of one that wasn't kept
-abbrev pub HasToken : Option ℕ → Result Success Refusal → Option Token → Type 0
-HasToken place (Ok (Accepted count)) t = IsTokenOf place count t
-HasToken place (Ok (NotKept count)) t = IsUnkept t
-HasToken place (Ok (Standing s)) t = ⊤
-HasToken place (Ok Opened) t = ⊤
-HasToken place (Err reason) t = ⊤
+-- What an answer to a line for the channel at `place`, or for none, is sent with, by a server that has the spools of `spools` channels: the token of
+-- the item that it accepts, or of one that wasn't kept.
+abbrev pub HasToken : (spools : ℕ) → Option ℕ → Result Success Refusal → Option Token → Type 0
+HasToken spools place (Ok (Accepted count)) t = IsTokenOf spools place count t
+HasToken spools place (Ok (NotKept count)) t = IsUnkept t
+HasToken spools place (Ok (Standing s)) t = ⊤
+HasToken spools place (Ok Opened) t = ⊤
+HasToken spools place (Err reason) t = ⊤

@@ -32,7 +32,7 @@ pub(crate) enum Token {
 pub(crate) fn settle<D: Disk>(turn: &mut Turn<'_, D>, answer: Published) -> (Told, Option<Token>)
     requires item { IfOk answer HasItem }
     ensures answer { IsSettled answer result.0 }
-    ensures kept { HasToken (Some turn.old.place) result.0 result.1 }
+    ensures kept { HasToken turn.old.spools (Some turn.old.place) result.0 result.1 }
     ensures line { IfOk answer (λ mark. (item : Item) → mark.stamp ≡ stamp.Publish item → OnAccepted result.0
         (OfSpool (λ old new. Appends (D.lines old.disk) (D.lines new.disk) (spooled_line old.settings mark.value item)) turn.old.spool turn.new.spool)) }
     ensures unchanged { IfErr answer (λ reason. turn.new ≡ turn.old) }
@@ -55,7 +55,7 @@ pub(crate) fn settle<D: Disk>(turn: &mut Turn<'_, D>, answer: Published) -> (Tol
 /// Keeps the item that was accepted with the number `mark` in the turn `turn`.
 fn keep<D: Disk>(turn: &mut Turn<'_, D>, mark: &Stamped<u64>) -> Result<Settled, NotKept>
     requires { HasItem mark.now }
-    ensures token { IfOk result (λ settled. settled ≡ record { place = turn.old.place; count = mark.now.value }) }
+    ensures token { IfOk result (λ settled. settled ≡ record { spools = turn.old.spools; place = turn.old.place; count = mark.now.value }) }
     ensures line { (item : Item) → mark.now.stamp ≡ stamp.Publish item → OnOk result
         (OfSpool (λ old new. Appends (D.lines old.disk) (D.lines new.disk) (spooled_line old.settings mark.now.value item)) turn.old.spool turn.new.spool) }
 {

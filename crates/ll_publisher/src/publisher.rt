@@ -132,10 +132,10 @@ fn tell<L: Ledgers, P: Link, C, G, K, D, B, R>(
     reply: &Told,
     token: Option<Token>,
 ) -> Result<(), LinkFault>
-    requires kept { HasToken (place_in service.now.hub.now (meant line.now)) reply.now token }
+    requires kept { HasToken service.now.spools (place_in service.now.hub.now (meant line.now)) reply.now token }
     ensures faults { IsTrue result (P.failures link.old) (P.failures link.new) }
     ensures unread { P.inward link.new ≡ P.inward link.old }
-    ensures other { IfErr result (λ fault. fault ≢ LinkFault.Endless) }
+    ensures other { IfErr result (λ fault. (fault ≢ LinkFault.Endless) × (fault ≢ LinkFault.Hub)) }
     ensures sent { OnOk result (Appends (P.written link.old) (P.written link.new) (reply_line reply.now)) }
     ensures cut { OnErr result (AppendsPrefix (P.written link.old) (P.written link.new) (reply_line reply.now)) }
 {
@@ -158,7 +158,7 @@ fn reply_to<L: Ledgers, C, G: Gate, K: Sink, D: Disk, B: Bell, R: Wait>(
     ensures right { IfOk result (λ told. IsTold (origin service.now.hub.now service.now.secrets.now) (caller pass.old opened.old.items) pass.new.history (meant line.now) told.0) }
     ensures remembered { IfOk result (λ told. caller pass.new opened.new.items
         ≡ caller_after (origin service.now.hub.now service.now.secrets.now) (meant line.now) told.0 pass.new.history (caller pass.old opened.old.items)) }
-    ensures kept { IfOk result (λ told. HasToken (place_in service.now.hub.now (meant line.now)) told.0 told.1) }
+    ensures kept { IfOk result (λ told. HasToken service.now.spools (place_in service.now.hub.now (meant line.now)) told.0 told.1) }
     ensures unanswered { OnErr result (HasSeen pass.old pass.new) }
 {
     match find(service, line) {
@@ -210,7 +210,7 @@ fn reply_in<L: Ledgers, C, G: Gate, K: Sink, D: Disk, B: Bell, R: Wait>(
     ensures right { IfOk result (λ told. IsTold (origin service.now.hub.now service.now.secrets.now) (caller pass.old opened.old.items) pass.new.history (meant line.now) told.0) }
     ensures remembered { IfOk result (λ told. caller pass.new opened.new.items
         ≡ caller_after (origin service.now.hub.now service.now.secrets.now) (meant line.now) told.0 pass.new.history (caller pass.old opened.old.items)) }
-    ensures kept { IfOk result (λ told. HasToken (Some channel) told.0 told.1) }
+    ensures kept { IfOk result (λ told. HasToken service.now.spools (Some channel) told.0 told.1) }
     ensures unanswered { OnErr result (HasSeen pass.old pass.new) }
 {
     match decide(service, opened, channel, line) {
@@ -243,7 +243,7 @@ fn publish<L: Ledgers, C, G: Gate, K: Sink, D: Disk, B: Bell, R: Wait>(
     ensures own { IsOwn result }
     ensures right { IfOk result (λ told. IsReplyTo service.now.hub.now pass.old pass.new.history (meant line.now) told.0) }
     ensures passed { IfOk result (λ told. pass.new ≡ heard service.now.hub.now (meant line.now) told.0 pass.new.history pass.old) }
-    ensures kept { IfOk result (λ told. HasToken (Some channel) told.0 told.1) }
+    ensures kept { IfOk result (λ told. HasToken service.now.spools (Some channel) told.0 told.1) }
     ensures unanswered { OnErr result (HasSeen pass.old pass.new) }
 {
     match line {
@@ -293,7 +293,7 @@ fn publish_bytes<L: Ledgers, C, G: Gate, K: Sink, D: Disk, B: Bell, R: Wait>(
     ensures right { (name : List ℕ) → channel_of_name service.now.hub.now 0 name ≡ Some (channel, settings.now)
         → IfOk result (λ told. IsReplyTo service.now.hub.now pass.old pass.new.history (says.Item name text.now bytes.now) told.0) }
     ensures passed { IfOk result (λ told. pass.new ≡ heard_at channel told.0 pass.new.history pass.old) }
-    ensures kept { IfOk result (λ told. HasToken (Some channel) told.0 told.1) }
+    ensures kept { IfOk result (λ told. HasToken service.now.spools (Some channel) told.0 told.1) }
     ensures unanswered { OnErr result (HasSeen pass.old pass.new) }
 {
     match Payload::of_bytes(bytes) {
@@ -319,7 +319,7 @@ fn publish_and_keep<L: Ledgers, C, G: Gate, K: Sink, D: Disk, B: Bell, R: Wait>(
     ensures right { (name : List ℕ) → channel_of_name service.now.hub.now 0 name ≡ Some (channel, settings.now)
         → IfOk result (λ told. IsReplyTo service.now.hub.now pass.old pass.new.history (says.Item name text.now payload.now) told.0) }
     ensures passed { IfOk result (λ told. pass.new ≡ heard_at channel told.0 pass.new.history pass.old) }
-    ensures kept { IfOk result (λ told. HasToken (Some channel) told.0 told.1) }
+    ensures kept { IfOk result (λ told. HasToken service.now.spools (Some channel) told.0 told.1) }
     ensures unanswered { OnErr result (HasSeen pass.old pass.new) }
 {
     let mut turn = service.turn(channel, settings)?;

@@ -3,14 +3,16 @@ use Rattle.std.specs.Prelude.{◌≡◌, ℕ, Option, Some, None}
 use Rattle.ll_settings.specs.Settings.{Configuration}
 use Rattle.ll_spool.specs.declared.spool.Spool.{Spool}
 
--- the turn in the channel at `place`, and its spool if it has one
+-- the turn in the channel at `place`, of a server that has the spools of so many channels, and its spool if it has one
 pub record TurnValue (D : Type 0) : Type 0 where
+  pub spools : ℕ
   pub place : ℕ
   pub settings : Configuration
   pub spool : Option (Spool D)
 
--- the item of the number `count` of the channel at `place`
+-- the item of the number `count` of the channel at `place`, of a server that has the spools of so many channels
 pub record SettledValue : Type 0 where
+  pub spools : ℕ
   pub place : ℕ
   pub count : ℕ
 

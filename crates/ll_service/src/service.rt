@@ -84,6 +84,7 @@ impl<L: Ledgers, C, G, K, D: Disk, B, R: Wait> Service<'_, L, C, G, K, D, B, R> 
         settings: &'t Settings,
     ) -> Result<Turn<'t, D>, LinkFault>
         ensures own { IsOwn result }
+        ensures spools { IfOk result (λ turn. turn.spools ≡ self.now.spools) }
         ensures place { IfOk result (λ turn. turn.place ≡ channel) }
         ensures settings { IfOk result (λ turn. turn.settings ≡ settings.now) }
         ensures spool { IfOk result (λ turn. MatchOption turn.spool (self.now.spools ≤ channel) (λ spool. spool.settings ≡ settings.now)) }

@@ -57,13 +57,16 @@ impl<'a, D: Disk> SpoolLocks<'a, D> {
         settings: &'t Settings,
     ) -> Result<Turn<'t, D>, LinkFault>
         ensures own { IsOwn result }
+        ensures spools { IfOk result (λ turn. turn.spools ≡ self.now) }
         ensures place { IfOk result (λ turn. turn.place ≡ channel) }
         ensures settings { IfOk result (λ turn. turn.settings ≡ settings.now) }
         ensures spool { IfOk result (λ turn. MatchOption turn.spool (self.now ≤ channel) (λ spool. spool.settings ≡ settings.now)) }
         ensures unmatched { IsErr result → channel < self.now }
     {
+        let spools = self.locks.len();
         let Some(lock) = self.locks.get(channel) else {
             return Ok(Turn {
+                spools,
                 channel,
                 settings,
                 spool: None,
@@ -74,6 +77,7 @@ impl<'a, D: Disk> SpoolLocks<'a, D> {
             return Err(LinkFault::Hub);
         }
         Ok(Turn {
+            spools,
             channel,
             settings,
             spool: Some(spool),
@@ -93,6 +97,8 @@ fn is_same(a: &Settings, b: &Settings) -> bool
 /// lock after it, so items are kept in the order in which they are accepted; players never take it.
 #[derive(Drop)]
 pub struct Turn<'a, D> {
+    /// The number of channels that have a spool.
+    spools: usize,
     channel: usize,
     settings: &'a Settings,
     spool: Option<MutexGuard<'a, Spool<D>>>,
@@ -105,13 +111,14 @@ impl<'a, D> Model for Turn<'a, D> {
 
     ghost Value = { TurnValue D };
 
-    ghost view = { λ t. record { place = t.channel; settings = t.settings.now; spool = option_map mutex_guard_value t.spool } };
+    ghost view = { λ t. record { spools = t.spools; place = t.channel; settings = t.settings.now; spool = option_map mutex_guard_value t.spool } };
 }
 
-/// A token: the item of the number `count` of the channel at place `channel` was kept, or that channel has no spool. Only [`Turn::keep`] makes
-/// one.
+/// A token: the item of the number `count` of the channel at place `channel` was kept, or that channel has no spool, in a server that has the
+/// spools of `spools` channels. Only [`Turn::keep`] makes one.
 #[derive(Drop)]
 pub struct Settled {
+    spools: usize,
     channel: usize,
     count: u64,
 }
@@ -121,7 +128,7 @@ impl Model for Settled {
 
     ghost Value = { SettledValue };
 
-    ghost view = { λ s. record { place = s.channel; count = s.count } };
+    ghost view = { λ s. record { spools = s.spools; place = s.channel; count = s.count } };
 }
 
 impl<'a, D> Turn<'a, D> {
@@ -144,7 +151,7 @@ impl<'a, D: Disk> Turn<'a, D> {
     /// Keeps `item`, which the channel has accepted as its item of the number `count`, in the channel's spool, if it has one. It fails as
     /// [`Spool::keep`] does, and never without a spool.
     pub fn keep(&mut self, count: u64, item: &Item) -> Result<Settled, NotKept>
-        ensures token { IfOk result (λ settled. settled ≡ record { place = self.old.place; count = count }) }
+        ensures token { IfOk result (λ settled. settled ≡ record { spools = self.old.spools; place = self.old.place; count = count }) }
         ensures same { self.new ≡ record self.old { spool = self.new.spool } }
         ensures free { self.old.spool ≡ None → IsOk result }
         ensures kept { OnOk result (OfSpool (λ old new. Appends (D.lines old.disk) (D.lines new.disk) (spooled_line old.settings count item.now)) self.old.spool self.new.spool) }
@@ -158,12 +165,14 @@ impl<'a, D: Disk> Turn<'a, D> {
     {
         let Some(spool) = &mut self.spool else {
             return Ok(Settled {
+                spools: self.spools,
                 channel: self.channel,
                 count,
             });
         };
         let _kept = spool.keep(count, item)?;
         Ok(Settled {
+            spools: self.spools,
             channel: self.channel,
             count,
         })
