@@ -1,8 +1,9 @@
--- The largest rates of sums: those of two lists, and of sums that last too long.
-use Rattle.std.proofs.Common.{◌≡◌, ℕ, ◌*◌, ◌<◌, ◌&&◌, List, [], ◌∷◌, ◌++◌, Bool, true, false, refl, ap, sym, ◌∙◌, max, nat_le, arith}
+-- The largest rates of sums: those of two lists, of sums that last too long, and those that are too large.
+use Rattle.std.proofs.Common.{◌≡◌, ℕ, ◌*◌, ◌^◌, ◌<◌, ◌≤◌, ◌&&◌, ◌⊎◌, inl, inr, List, [], ◌∷◌, ◌++◌, Bool, true, false, refl, ap, sym, subst, ◌∙◌, max, nat_le, arith}
 use Rattle.std.proofs.lemmas.Bool.{lt-leb}
 use Rattle.ll_variants.specs.Rates.{fastest, is_counted, peak, sets, sums_from}
-use Rattle.ll_variants.specs.Segments.{no_size, plus}
+use Rattle.ll_variants.specs.Segments.{IsLarge, no_size, plus, sum_of}
+use Rattle.ll_variants.proofs.SizeLemmas.{IsWithin, large-within}
 use Rattle.ll_variants.specs.declared.segments.Size.{Size}
 
 -- ---- two lists
@@ -57,3 +58,15 @@ peak_in t sofar first all left s more e f is =
 pub over_in : (t sofar all : ℕ) (before : Size) (left : List Size) (s : Size) (more : List Size) → left ≡ s ∷ more → t * 1500000 < (plus before s).duration
     → max sofar (fastest t (sums_from before left)) ≡ all → sofar ≡ all
 over_in t sofar all before left s more e l is = peak_over t sofar all before s more l (ap (λ xs. max sofar (fastest t (sums_from before xs))) (sym e) ∙ is)
+
+-- ---- numbers that are too large
+
+-- the largest rate of sets that begin with the first segment is no larger than the peak
+pub peak_large : (t sofar : ℕ) (all left : List Size) (s : Size) (more : List Size) → left ≡ s ∷ more → max sofar (peak t left) ≡ peak t all → IsWithin (sum_of left) (sum_of all)
+    → IsLarge (sum_of left) ⊎ (2 ^ 64 ≤ fastest t (sums_from no_size left)) → IsLarge (sum_of all) ⊎ (2 ^ 64 ≤ peak t all)
+peak_large t sofar all left s more e is within (inl sum) = inl (large-within (sum_of left) (sum_of all) within sum)
+peak_large t sofar all left s more e is within (inr rate) =
+    let split = fastest-append t (sums_from no_size (s ∷ more)) (sets more) in
+    let first : 2 ^ 64 ≤ fastest t (sums_from no_size (s ∷ more)) = subst (λ l. 2 ^ 64 ≤ fastest t (sums_from no_size l)) e rate in
+    let both : max sofar (peak t (s ∷ more)) ≡ peak t all = ap (λ l. max sofar (peak t l)) (sym e) ∙ is in
+    inr (omega (arith, first, split, both))

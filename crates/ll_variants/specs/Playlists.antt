@@ -1,9 +1,10 @@
 -- The text of a Multivariant Playlist (section 4.4.6).
-use Rattle.std.specs.Prelude.{ℕ, ◌+◌, ◌&&◌, Bool, true, false, not, List, [], ◌∷◌, ◌++◌, bytes_eq, is_none, max, if◌then◌else◌}
+use Rattle.std.specs.Prelude.{◌≡◌, ℕ, ◌+◌, ◌&&◌, Any, Bool, true, false, not, List, [], ◌∷◌, ◌++◌, bytes_eq, is_none, max, if◌then◌else◌}
 use Rattle.std.specs.List.{list_any}
 use Rattle.ll_codecs.specs.Sections.{first_picture}
 use Rattle.ll_codecs.specs.declared.track.CodecTrack.{CodecTrack}
 use Rattle.ll_variants.specs.Lines.{codecs_text, group_text, header, joined, media_text, picture_text, rates_text, uri_text}
+use Rattle.ll_variants.specs.Rates.{AreLarge}
 use Rattle.ll_variants.specs.declared.rates.Rates.{Rates}
 use Rattle.ll_variants.specs.declared.stream.Stream.{Stream}
 
@@ -38,6 +39,14 @@ sum_rates a b = record { bandwidth = a.bandwidth + b.bandwidth; average = a.aver
 abbrev pub variant_rates : Bool → List Stream → Stream → Rates
 variant_rates true streams s = sum_rates s.rates (sound_rates no_rates streams)
 variant_rates false streams s = s.rates
+
+-- a rendition is written as a variant, and its rates are too large for that
+abbrev pub IsLargeVariant : Bool → List Stream → Stream → Type 0
+IsLargeVariant grouped streams s = ((grouped && is_sound s) ≡ false) × AreLarge (variant_rates grouped streams s)
+
+-- there is one of these
+abbrev pub HasLargeVariant : List Stream → Type 0
+HasLargeVariant streams = Any (IsLargeVariant (is_grouped streams) streams) streams
 
 -- ---- its codecs
 

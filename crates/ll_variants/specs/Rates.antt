@@ -1,6 +1,6 @@
 -- How fast a rendition is, in bits a second (section 4.4.6.2).
-use Rattle.std.specs.Prelude.{ℕ, ◌+◌, ◌-◌, ◌*◌, ◌/◌, ◌==◌, ◌&&◌, Bool, List, [], ◌∷◌, ◌++◌, filter, fold, map, max, nat_le, if◌then◌else◌}
-use Rattle.ll_variants.specs.Segments.{no_size, plus}
+use Rattle.std.specs.Prelude.{ℕ, ◌+◌, ◌-◌, ◌*◌, ◌/◌, ◌^◌, ◌≤◌, ◌==◌, ◌&&◌, ◌⊎◌, Bool, List, [], ◌∷◌, ◌++◌, filter, map, max, nat_le, if◌then◌else◌}
+use Rattle.ll_variants.specs.Segments.{no_size, plus, sum_of}
 use Rattle.ll_variants.specs.declared.rates.Rates.{Rates}
 use Rattle.ll_variants.specs.declared.segments.Size.{Size}
 
@@ -36,8 +36,12 @@ peak target segments = fastest target (sets segments)
 
 -- the rate of all segments together
 abbrev pub average : List Size → ℕ
-average segments = rate (fold plus no_size segments)
+average segments = rate (sum_of segments)
 
 -- The bandwidth is the peak, and no less than the average: segments that last less than half a target duration have no peak.
 abbrev pub rates : ℕ → List Size → Rates
 rates target segments = record { bandwidth = max (peak target segments) (average segments); average = average segments }
+
+-- one of the rates is too large for 64 bits
+abbrev pub AreLarge : Rates → Type 0
+AreLarge r = (2 ^ 64 ≤ r.bandwidth) ⊎ (2 ^ 64 ≤ r.average)

@@ -1,7 +1,8 @@
 //! The text of a Multivariant Playlist (section 4.4.6).
-ghost use Rattle.std.specs.Prelude.{◌≡◌, ◌++◌, IfOk, IfSome, OnOk, string_bytes, true};
+ghost use Rattle.std.specs.Prelude.{◌≡◌, ◌++◌, Any, IfOk, IsErrOf, MatchOption, OnOk, string_bytes, true};
 ghost use Rattle.std.specs.List.{list_any};
 ghost use Rattle.ll_variants.specs.Playlists as spec;
+ghost use Rattle.ll_variants.specs.Rates.{AreLarge};
 
 use crate::codecs::{joined, variant_codecs};
 use crate::lines::{
@@ -13,7 +14,8 @@ use std::alloc::{AllocError, Global};
 
 /// Returns the Multivariant Playlist of `streams`, in their order.
 pub fn playlist_text(alloc: Global, streams: &[Stream]) -> Result<String, VariantFault>
-    ensures { IfOk result (λ t. string_bytes t ≡ spec.playlist streams.now) }
+    ensures text { IfOk result (λ t. string_bytes t ≡ spec.playlist streams.now) }
+    ensures large { IsErrOf result VariantFault.TooLarge → spec.HasLargeVariant streams.now }
 {
     let grouped = is_grouped(streams);
     let mut text = String::from_str(alloc, HEADER)?;
@@ -68,7 +70,8 @@ fn push_variants(
     grouped: bool,
     streams: &[Stream],
 ) -> Result<(), VariantFault>
-    ensures { OnOk result (string_bytes text.new ≡ string_bytes text.old ++ spec.variants_text grouped streams.now streams.now) }
+    ensures text { OnOk result (string_bytes text.new ≡ string_bytes text.old ++ spec.variants_text grouped streams.now streams.now) }
+    ensures large { IsErrOf result VariantFault.TooLarge → Any (spec.IsLargeVariant grouped streams.now) streams.now }
 {
     let mut left = streams;
     'streams: while let Some((stream, more)) = left.split_first() {
@@ -88,7 +91,9 @@ fn push_variant(
     streams: &[Stream],
     stream: &Stream,
 ) -> Result<(), VariantFault>
-    ensures { OnOk result (string_bytes text.new ≡ string_bytes text.old ++ spec.variant_text grouped streams.now stream.now) }
+    ensures text { OnOk result (string_bytes text.new ≡ string_bytes text.old ++ spec.variant_text grouped streams.now stream.now) }
+    ensures large { IsErrOf result VariantFault.TooLarge → AreLarge (spec.variant_rates grouped streams.now stream.now) }
+    ensures memory { IsErrOf result VariantFault.Memory → ¬ (AreLarge (spec.variant_rates grouped streams.now stream.now)) }
 {
     let rates = variant_rates(grouped, streams, stream).ok_or(VariantFault::TooLarge)?;
     let codecs = variant_codecs(alloc, grouped, streams, stream)?;
@@ -104,7 +109,8 @@ fn push_variant(
 
 /// Returns the rates of the variant `stream`, or `None` if they are above 2^64.
 fn variant_rates(grouped: bool, streams: &[Stream], stream: &Stream) -> Option<Rates>
-    ensures { IfSome result (λ rates. rates ≡ spec.variant_rates grouped streams.now stream.now) }
+    ensures { MatchOption result (AreLarge (spec.variant_rates grouped streams.now stream.now))
+        (λ rates. rates ≡ spec.variant_rates grouped streams.now stream.now) }
 {
     if !grouped {
         return Some(stream.rates);

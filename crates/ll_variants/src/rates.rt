@@ -1,7 +1,7 @@
 //! How fast a rendition is, in bits a second (section 4.4.6.2).
-ghost use Rattle.std.specs.Prelude.{◌≡◌, ◌≤◌, ◌+◌, IfSome, fold, max};
+ghost use Rattle.std.specs.Prelude.{◌≡◌, ◌≤◌, ◌^◌, ◌⊎◌, IfNone, IfSome, MatchOption};
 ghost use Rattle.ll_variants.specs.Rates as spec;
-ghost use Rattle.ll_variants.specs.Segments.{no_size, plus};
+ghost use Rattle.ll_variants.specs.Segments.{IsLarge, no_size, sum_of};
 
 use crate::segments::Size;
 
@@ -14,10 +14,11 @@ pub struct Rates {
     pub average: u64,
 }
 
-/// Returns how fast `segments` are, if the target duration is `target` seconds. Returns `None` if a sum is above 2^64.
+/// Returns how fast `segments` are, if the target duration is `target` seconds. Returns `None` if a sum or a rate is above 2^64.
 pub fn rates_of(target: u64, segments: &[Size]) -> Option<Rates>
     requires { target ≤ 60 }
-    ensures { IfSome result (λ rates. rates ≡ spec.rates target segments.now) }
+    ensures rates { IfSome result (λ rates. rates ≡ spec.rates target segments.now) }
+    ensures large { IfNone result (IsLarge (sum_of segments.now) ⊎ spec.AreLarge (spec.rates target segments.now)) }
 {
     let average = average(segments)?;
     let bandwidth = peak(target, segments)?.max(average);
@@ -26,7 +27,8 @@ pub fn rates_of(target: u64, segments: &[Size]) -> Option<Rates>
 
 /// Returns the rate of all of `segments` together.
 fn average(segments: &[Size]) -> Option<u64>
-    ensures { IfSome result (λ n. n ≡ spec.average segments.now) }
+    ensures { MatchOption result (IsLarge (sum_of segments.now) ⊎ (2 ^ 64 ≤ spec.average segments.now))
+        (λ n. n ≡ spec.average segments.now) }
 {
     let mut sum = Size::none();
     let mut left = segments;
@@ -40,7 +42,8 @@ fn average(segments: &[Size]) -> Option<u64>
 /// Returns the peak segment bit rate of `segments`.
 fn peak(target: u64, segments: &[Size]) -> Option<u64>
     requires { target ≤ 60 }
-    ensures { IfSome result (λ n. n ≡ spec.peak target segments.now) }
+    ensures { MatchOption result (IsLarge (sum_of segments.now) ⊎ (2 ^ 64 ≤ spec.peak target segments.now))
+        (λ n. n ≡ spec.peak target segments.now) }
 {
     let mut peak = 0_u64;
     let mut left = segments;
@@ -54,7 +57,8 @@ fn peak(target: u64, segments: &[Size]) -> Option<u64>
 /// Returns the largest rate of the contiguous sets that begin with the first of `segments`. It ends at the first set that lasts too long.
 fn peak_from(target: u64, segments: &[Size]) -> Option<u64>
     requires { target ≤ 60 }
-    ensures { IfSome result (λ n. n ≡ spec.fastest target (spec.sums_from no_size segments.now)) }
+    ensures { MatchOption result (IsLarge (sum_of segments.now) ⊎ (2 ^ 64 ≤ spec.fastest target (spec.sums_from no_size segments.now)))
+        (λ n. n ≡ spec.fastest target (spec.sums_from no_size segments.now)) }
 {
     let mut peak = 0_u64;
     let mut sum = Size::none();
@@ -82,7 +86,7 @@ fn is_counted(target: u64, sum: Size) -> bool
 
 /// Returns the rate of `size`, rounded up, or `None` if it is above 2^64.
 fn rate(size: Size) -> Option<u64>
-    ensures { IfSome result (λ n. n ≡ spec.rate size) }
+    ensures { MatchOption result (2 ^ 64 ≤ spec.rate size) (λ n. n ≡ spec.rate size) }
 {
     if size.duration == 0 {
         return Some(0);

@@ -1,5 +1,5 @@
 //! The finished segments of a rendition, as the sums of what its items add.
-ghost use Rattle.std.specs.Prelude.{◌≡◌, ◌++◌, IfOk, IfSome};
+ghost use Rattle.std.specs.Prelude.{◌≡◌, ◌≢◌, [], ◌++◌, IfOk, IsErrOf, MatchOption};
 ghost use Rattle.ll_variants.specs.Segments as spec;
 
 use crate::stream::VariantFault;
@@ -38,7 +38,7 @@ impl Size {
 
     /// Returns the sum with `other`, or `None` if it is above 2^64.
     pub(crate) fn plus(self, other: Size) -> Option<Size>
-        ensures { IfSome result (λ sum. sum ≡ spec.plus self other) }
+        ensures { MatchOption result (spec.IsLarge (spec.plus self other)) (λ sum. sum ≡ spec.plus self other) }
     {
         let bytes = self.bytes.checked_add(other.bytes)?;
         let duration = self.duration.checked_add(other.duration)?;
@@ -52,7 +52,9 @@ pub fn finished_segments(
     rendition: usize,
     additions: &[Addition],
 ) -> Result<Vec<Size>, VariantFault>
-    ensures { IfOk result (λ segments. segments.items ≡ spec.segments_of rendition additions.now) }
+    ensures segments { IfOk result (λ segments. segments.items ≡ spec.segments_of rendition additions.now) }
+    ensures large { IsErrOf result VariantFault.TooLarge → spec.IsLarge (spec.total rendition additions.now) }
+    ensures memory { IsErrOf result VariantFault.Memory → spec.segments_of rendition additions.now ≢ [] }
 {
     let mut segments = Vec::new(alloc);
     let mut sum = Size::none();
