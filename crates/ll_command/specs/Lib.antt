@@ -1,5 +1,6 @@
 -- The definitions of this crate: the program's commands and exit statuses.
 pub mod Commands
+pub mod Cuts
 pub mod Multivariants
 pub mod Secrets
 pub mod Status

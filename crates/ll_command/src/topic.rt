@@ -1,10 +1,10 @@
 //! How the program and each of its commands is used.
-ghost use Rattle.std.specs.Prelude.{◌≡◌, IfErr};
+ghost use Rattle.std.specs.Prelude.{◌≡◌, ◌<◌, IfErr};
 ghost use Rattle.ll_command.specs.Commands.{topic_named};
 
 use crate::fault::Fault;
 use crate::writing::write_out;
-use std::io::Write;
+use ll_device::Writer;
 
 /// What help is asked for.
 #[derive(Clone, Copy)]
@@ -68,8 +68,8 @@ impl Topic {
 }
 
 /// Writes how the program or the command of `topic` is used.
-pub fn write_help<W: Write>(topic: Topic, out: &mut W) -> Result<(), Fault>
-    ensures fault { IfErr result (λ f. f ≡ Fault.Write) }
+pub fn write_help<W: Writer>(topic: Topic, out: &mut W) -> Result<(), Fault>
+    ensures failed { IfErr result (λ f. (f ≡ Fault.Write) × (W.failures out.old < W.failures out.new)) }
 {
     write_out(topic.usage().as_bytes(), out)
 }

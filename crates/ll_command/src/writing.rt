@@ -1,10 +1,11 @@
 //! Writes to standard output what the program's commands result in.
-ghost use Rattle.std.specs.Prelude.{◌≡◌, ◌≢◌, ◌+◌, ◌<◌, ◌^◌, ◌⊎◌, List, ℕ, Ok, Err, Some, IfErr, IfOk, IsErr, IsErrOf, IsOk, OnErr, OnOk, is_ok};
+ghost use Rattle.std.specs.Prelude.{◌≡◌, ◌≢◌, ◌+◌, ◌<◌, ◌^◌, ◌⊎◌, Bool, List, ℕ, Ok, Err, Some, IfErr, IfOk, IsErr, IsErrOf, IsOk, OnErr, OnOk, is_ok};
 ghost use Rattle.std.specs.Io.KnownBytes.{Appends};
 ghost use Rattle.ll_apply.specs.Texts.{applied_text};
 ghost use Rattle.ll_apply.specs.declared.fault.ApplyFault.{ApplyFault};
 ghost use Rattle.ll_apply.specs.declared.fault.ApplyFault.TheVariants as apply_fault;
 ghost use Rattle.ll_check.specs.Answer as spec;
+ghost use Rattle.ll_command.specs.Cuts.{IsCutShort};
 ghost use Rattle.ll_device.specs.Written.{AppendsPrefix};
 ghost use Rattle.ll_entry.specs.Chain.{checked};
 ghost use Rattle.ll_explain.specs.Explained.{HasNoEntry};
@@ -14,24 +15,23 @@ ghost use Rattle.ll_explain.specs.Words.{IsExplanation};
 use crate::fault::{Fault, changed_fault, read_fault};
 use ll_apply::apply;
 use ll_check::{RecordFault, answer_line, check_source};
-use ll_device::Reader;
+use ll_device::{Failed, Reader, Writer, write_all};
 use ll_entry::{CheckFault, CheckKind};
-use ll_explain::{
-    ExplainFault, UpgradeFault, explain, summarize, summary_text, upgrade, write_text,
-};
+use ll_explain::{ExplainFault, UpgradeFault, explain, summarize, summary_text, upgrade};
 use std::alloc::{AllocError, Global};
-use std::io::Write;
 
 /// Applies the delta update `delta` to the playlist `base`, and writes the full playlist.
-pub fn write_applied<W: Write>(
+pub fn write_applied<W: Writer>(
     alloc: Global,
     base: &[u8],
     delta: &[u8],
     out: &mut W,
 ) -> Result<(), Fault>
-    ensures written { OnOk result ((text : List ℕ) × (applied_text base.now delta.now ≡ Ok text) × Appends (W.contents out.old) (W.contents out.new) text) }
+    ensures written { OnOk result ((text : List ℕ) × (applied_text base.now delta.now ≡ Ok text) × Appends (W.written out.old) (W.written out.new) text) }
     ensures refused { (fault : ApplyFault) → IsErrOf result (Fault.Apply fault) → fault ≢ apply_fault.Memory → applied_text base.now delta.now ≡ Err fault }
     ensures memory { IsErrOf result (Fault.Apply apply_fault.Memory) → IsOk (applied_text base.now delta.now) }
+    ensures cut { OnErr result (IsCutShort (λ text. applied_text base.now delta.now ≡ Ok text) (W.written out.old) (W.written out.new)) }
+    ensures unwritten { IsErrOf result Fault.Write → W.failures out.old < W.failures out.new }
     ensures kinds { IfErr result (λ f. f ≢ Fault.Write → (fault : ApplyFault) × (f ≡ Fault.Apply fault)) }
 {
     match apply(alloc, base, delta) {
@@ -42,13 +42,16 @@ pub fn write_applied<W: Write>(
 
 /// Checks the record that is left in `source`, writes its number of entries or how it isn't right, and returns whether it is right. The
 /// record is read in pieces: the memory doesn't grow with it.
-pub fn write_checked<R: Reader, W: Write>(
+pub fn write_checked<R: Reader, W: Writer>(
     alloc: Global,
     source: &mut R,
     out: &mut W,
 ) -> Result<bool, Fault>
     ensures written { (input : List ℕ) → R.left source.old ≡ Some input → IfOk result (λ right. (right ≡ is_ok (checked input))
-        × Appends (W.contents out.old) (W.contents out.new) (spec.answer_line (checked input))) }
+        × Appends (W.written out.old) (W.written out.new) (spec.answer_line (checked input))) }
+    ensures cut { (input : List ℕ) → R.left source.old ≡ Some input
+        → OnErr result (IsCutShort (λ text. text ≡ spec.answer_line (checked input)) (W.written out.old) (W.written out.new)) }
+    ensures unwritten { IsErrOf result Fault.Write → W.failures out.old < W.failures out.new }
     ensures read { IsErrOf result Fault.Read → R.failures source.old < R.failures source.new }
     ensures endless { IsErrOf result Fault.Endless → R.reads source.new ≡ R.reads source.old + 2 ^ 32 }
     ensures kinds { IfErr result (λ f. f ≢ Fault.Write → f ≢ Fault.Read → f ≢ Fault.Endless → f ≡ Fault.Memory) }
@@ -63,16 +66,17 @@ pub fn write_checked<R: Reader, W: Write>(
 /// Writes the record that is left in `source` in format 2, or how it isn't right, and returns whether it is right. The record is read in pieces,
 /// first to check it, and then, left in `again`, to write it as it is read: the memory doesn't grow with it. Fails with `Changed` if it isn't
 /// right then. If it fails, a prefix was written.
-pub fn write_upgraded<R: Reader, S: Reader, W: Write>(
+pub fn write_upgraded<R: Reader, S: Reader, W: Writer>(
     alloc: Global,
     source: &mut R,
     again: &mut S,
     out: &mut W,
 ) -> Result<bool, Fault>
     ensures written { (input : List ℕ) → R.left source.old ≡ Some input → S.left again.old ≡ Some input → IfOk result (λ right. (right ≡ is_ok (checked input))
-        × Appends (W.contents out.old) (W.contents out.new) (spec.upgrade_answer (checked input) (upgraded input))) }
+        × Appends (W.written out.old) (W.written out.new) (spec.upgrade_answer (checked input) (upgraded input))) }
     ensures cut { (input next : List ℕ) → R.left source.old ≡ Some input → S.left again.old ≡ Some next
-        → OnErr result (AppendsPrefix (W.contents out.old) (W.contents out.new) (spec.upgrade_answer (checked input) (upgraded next))) }
+        → OnErr result (AppendsPrefix (W.written out.old) (W.written out.new) (spec.upgrade_answer (checked input) (upgraded next))) }
+    ensures unwritten { (input : List ℕ) → S.left again.old ≡ Some input → IsErrOf result Fault.Write → W.failures out.old < W.failures out.new }
     ensures right { (input : List ℕ) → R.left source.old ≡ Some input → IsErrOf result Fault.Changed → IsOk (checked input) }
     ensures changed { (input : List ℕ) → S.left again.old ≡ Some input → IsErrOf result Fault.Changed → IsErr (checked input) }
     ensures read { IsErrOf result Fault.Read → (R.failures source.old < R.failures source.new) ⊎ (S.failures again.old < S.failures again.new) }
@@ -94,14 +98,17 @@ pub fn write_upgraded<R: Reader, S: Reader, W: Write>(
 
 /// Writes the explanation of entry `entry` of the record that is left in `source`, or how the record isn't right up to it, and returns whether
 /// it is right up to it. Fails with `NoEntry` if there is no such entry. The record is read in pieces.
-pub fn write_explained<R: Reader, W: Write>(
+pub fn write_explained<R: Reader, W: Writer>(
     alloc: Global,
     source: &mut R,
     entry: u64,
     out: &mut W,
 ) -> Result<bool, Fault>
     ensures written { (input : List ℕ) → R.left source.old ≡ Some input
-        → IfOk result (λ right. (text : List ℕ) × IsExplanation input entry right text × Appends (W.contents out.old) (W.contents out.new) text) }
+        → IfOk result (λ right. (text : List ℕ) × IsExplanation input entry right text × Appends (W.written out.old) (W.written out.new) text) }
+    ensures cut { (input : List ℕ) → R.left source.old ≡ Some input
+        → OnErr result (IsCutShort (λ text. (right : Bool) × IsExplanation input entry right text) (W.written out.old) (W.written out.new)) }
+    ensures unwritten { IsErrOf result Fault.Write → W.failures out.old < W.failures out.new }
     ensures none { (input : List ℕ) → R.left source.old ≡ Some input → IsErrOf result Fault.NoEntry → HasNoEntry input entry }
     ensures read { IsErrOf result Fault.Read → R.failures source.old < R.failures source.new }
     ensures endless { IsErrOf result Fault.Endless → R.reads source.new ≡ R.reads source.old + 2 ^ 32 }
@@ -127,12 +134,13 @@ pub fn write_explained<R: Reader, W: Write>(
 
 /// Writes a summary of each chain of the record that is left in `source`, or how the record isn't right, and returns whether it is right. The
 /// record is read in pieces.
-pub fn write_summary<R: Reader, W: Write>(
+pub fn write_summary<R: Reader, W: Writer>(
     alloc: Global,
     source: &mut R,
     out: &mut W,
 ) -> Result<bool, Fault>
     ensures right { (input : List ℕ) → R.left source.old ≡ Some input → IfOk result (λ right. right ≡ is_ok (checked input)) }
+    ensures unwritten { IsErrOf result Fault.Write → W.failures out.old < W.failures out.new }
     ensures read { IsErrOf result Fault.Read → R.failures source.old < R.failures source.new }
     ensures endless { IsErrOf result Fault.Endless → R.reads source.new ≡ R.reads source.old + 2 ^ 32 }
     ensures kinds { IfErr result (λ f. f ≢ Fault.Write → f ≢ Fault.Read → f ≢ Fault.Endless → f ≡ Fault.Memory) }
@@ -151,15 +159,16 @@ pub fn write_summary<R: Reader, W: Write>(
 }
 
 /// Writes the line of a record's check, and returns whether the record is right.
-pub(crate) fn write_answer<W: Write>(
+pub(crate) fn write_answer<W: Writer>(
     alloc: Global,
     answer: Result<u64, CheckFault>,
     out: &mut W,
 ) -> Result<bool, Fault>
-    ensures written { IfOk result (λ right. (right ≡ is_ok answer) × Appends (W.contents out.old) (W.contents out.new) (spec.answer_line answer)) }
-    ensures cut { OnErr result (AppendsPrefix (W.contents out.old) (W.contents out.new) (spec.answer_line answer)) }
+    ensures written { IfOk result (λ right. (right ≡ is_ok answer) × Appends (W.written out.old) (W.written out.new) (spec.answer_line answer)) }
+    ensures cut { OnErr result (AppendsPrefix (W.written out.old) (W.written out.new) (spec.answer_line answer)) }
     ensures none { IfErr answer (λ f. f.kind ≡ CheckKind.Memory → out.new ≡ out.old) }
     ensures told { IfOk result (λ right. IfErr answer (λ f. f.kind ≢ CheckKind.Memory)) }
+    ensures unwritten { IsErrOf result Fault.Write → W.failures out.old < W.failures out.new }
     ensures kinds { IfErr result (λ f. f ≢ Fault.Write → f ≡ Fault.Memory) }
 {
     if let Err(
@@ -178,17 +187,14 @@ pub(crate) fn write_answer<W: Write>(
     Ok(answer.is_ok())
 }
 
-/// Writes `bytes`, and flushes.
-pub(crate) fn write_out<W: Write>(bytes: &[u8], out: &mut W) -> Result<(), Fault>
-    ensures written { OnOk result (Appends (W.contents out.old) (W.contents out.new) bytes.now) }
-    ensures cut { OnErr result (AppendsPrefix (W.contents out.old) (W.contents out.new) bytes.now) }
-    ensures fault { IfErr result (λ f. f ≡ Fault.Write) }
+/// Writes `bytes`.
+pub(crate) fn write_out<W: Writer>(bytes: &[u8], out: &mut W) -> Result<(), Fault>
+    ensures written { OnOk result (Appends (W.written out.old) (W.written out.new) bytes.now) }
+    ensures cut { OnErr result (AppendsPrefix (W.written out.old) (W.written out.new) bytes.now) }
+    ensures failed { IfErr result (λ f. (f ≡ Fault.Write) × (W.failures out.old < W.failures out.new)) }
 {
-    if write_text(bytes, out) < bytes.len() {
-        return Err(Fault::Write);
+    match write_all(out, bytes) {
+        Ok(()) => Ok(()),
+        Err(Failed) => Err(Fault::Write),
     }
-    if out.flush().is_err() {
-        return Err(Fault::Write);
-    }
-    Ok(())
 }

@@ -1,5 +1,5 @@
 -- What lines are in format 2, by what the first of them say.
-use Rattle.std.proofs.Common.{◌≡◌, ℕ, List, [], ◌++◌, cond, length, Option, Some, None, Result, Ok, Err, OnOk, false, is_err, is_ok, true≢false, ap, sym, subst, ◌∙◌, append_assoc, append-nil, option_map}
+use Rattle.std.proofs.Common.{◌≡◌, ℕ, Bool, List, [], ◌++◌, cond, length, Option, Some, None, Result, Ok, Err, OnOk, false, true, is_err, drop, take, take-append-drop, le_refl, le_trans, lt_of_le_of_lt, is_ok, true≢false, ap, sym, subst, ◌∙◌, append_assoc, append-nil, option_map}
 use Rattle.std.proofs.KnownBytes.{Appends-nil, Appends-trans}
 use Rattle.std.specs.Io.KnownBytes.{Appends}
 use Rattle.std.specs.Option.{option_map_or}
@@ -7,7 +7,7 @@ use Rattle.ll_attr.specs.Words.{pieces_at}
 use Rattle.ll_check.specs.Steps.{Tells, full_entry}
 use Rattle.ll_device.specs.Written.{AppendsPrefix}
 use Rattle.ll_entry_check.specs.Full.{without_item}
-use Rattle.ll_explain.specs.Upgrade.{AreWritten, told_text, upgraded, upgraded_entry, upgraded_from, upgraded_line, where_right}
+use Rattle.ll_explain.specs.Upgrade.{AreWritten, HasFailedIf, WritesOff, told_text, upgraded, upgraded_entry, upgraded_from, upgraded_line, where_right}
 use Rattle.ll_entry_check.specs.declared.full.FullEntry.{FullEntry}
 use Rattle.ll_check.specs.declared.told.Told.{Told}
 use Rattle.ll_check.specs.declared.told.Told.TheVariants as told
@@ -85,6 +85,15 @@ written-more first out after text left p lines rest w more = record {
   are = w.are ∙ ap (λ x. x ++ upgraded_from p rest) (ap (λ x. w.written ++ x) more.1 ∙ sym (append_assoc w.written more.0 left));
 }
 
+-- a write took the first of what was left
+pub written-off : (first mid new : Option (List ℕ)) (text left later : List ℕ) (n : ℕ) → WritesOff first mid text left → Appends mid new (take n left) → later ≡ drop n left
+    → WritesOff first new text later
+written-off first mid new text left later n w more is = (
+  w.0 ++ take n left,
+  w.1 ∙ ap (λ x. w.0 ++ x) (sym (take-append-drop n left) ∙ ap (λ x. take n left ++ x) (sym is)) ∙ sym (append_assoc w.0 (take n left) later),
+  Appends-trans first mid new w.0 (take n left) w.2 more,
+)
+
 -- no line is left, and nothing to be written
 pub written-all : (first out : Option (List ℕ)) (text bytes : List ℕ) (before : Option Chain)
     → AreWritten first out text (Between before) (pieces_at 10 bytes) (pieces_at 10 []) → text ≡ [] → Appends first out (upgraded bytes)
@@ -96,6 +105,18 @@ pub written-cut : (first out : Option (List ℕ)) (text : List ℕ) (p : Positio
     → AppendsPrefix first out (upgraded_from (Between None) lines)
 written-cut first out text p lines rest w =
     (w.written, text ++ upgraded_from p rest, w.are ∙ append_assoc w.written text (upgraded_from p rest), w.appends)
+
+-- ---- failures
+
+-- no write has failed
+pub failed-first : (n : ℕ) → HasFailedIf false n n
+failed-first n = (le_refl n, λ e. absurd (true≢false (sym e)))
+
+-- further writes
+pub failed-more : (one other : Bool) (first before after : ℕ) → HasFailedIf one first before → HasFailedIf other before after → HasFailedIf other first after
+failed-more one other first before after h w = (le_trans h.0 w.0, λ e. lt_of_le_of_lt h.0 (w.1 e))
+
+-- ---- what a result says
 
 pub added : {T E : Type 0} (r : Result T E) (new x y : List ℕ) → new ≡ cond (is_ok r) x y → OnOk r (new ≡ x)
 added (Ok v) new x y e = e

@@ -1,5 +1,5 @@
 -- A record in format 2, whichever formats its chunks are in.
-use Rattle.std.specs.Prelude.{◌≡◌, ℕ, List, [], ◌∷◌, ◌++◌, false, Option, Some, None, Result, Ok, Err, bytes_eq, codes, if◌then◌else◌, length}
+use Rattle.std.specs.Prelude.{◌≡◌, ◌<◌, ◌≤◌, ℕ, List, [], ◌∷◌, ◌++◌, Bool, true, false, Option, Some, None, Result, Ok, Err, bytes_eq, codes, if◌then◌else◌, length}
 use Rattle.std.specs.Io.KnownBytes.{Appends}
 use Rattle.std.specs.List.{AllZip}
 use Rattle.std.specs.Option.{option_map_or}
@@ -71,6 +71,14 @@ pub record AreWritten (first out : Option (List ℕ)) (text : List ℕ) (p : Pos
   pub written : List ℕ
   pub appends : Appends first out written
   pub are : upgraded_from (Between None) lines ≡ written ++ text ++ upgraded_from p rest
+
+-- of a text, what isn't left was written
+abbrev pub WritesOff : Option (List ℕ) → Option (List ℕ) → List ℕ → List ℕ → Type 0
+WritesOff before after text left = (written : List ℕ) × (text ≡ written ++ left) × Appends before after written
+
+-- no fewer failures than before, and more of them if a write has failed
+abbrev pub HasFailedIf : Bool → ℕ → ℕ → Type 0
+HasFailedIf failed before after = (before ≤ after) × (failed ≡ true → before < after)
 
 -- ---- that it says the same
 

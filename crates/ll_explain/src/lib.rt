@@ -8,11 +8,9 @@ mod summary;
 mod summary_lines;
 mod upgraded;
 mod words;
-mod writing;
 
 pub use explained::{ExplainFault, Explained, explain};
 pub use laws::upgrade_law;
 pub use summary::{Summary, summarize};
 pub use summary_lines::summary_text;
 pub use upgraded::{UpgradeFault, upgrade};
-pub use writing::write_text;

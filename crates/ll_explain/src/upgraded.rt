@@ -1,5 +1,5 @@
 //! How a record is written in format 2.
-ghost use Rattle.std.specs.Prelude.{◌≡◌, ◌+◌, ◌++◌, ◌<◌, ◌≤◌, ◌^◌, [], ℕ, IsErrOf, List, OnErr, OnOk, Ok, Some, drop, length, true};
+ghost use Rattle.std.specs.Prelude.{◌≡◌, ◌+◌, ◌++◌, ◌<◌, ◌≤◌, ◌^◌, [], ℕ, IsErrOf, List, OnErr, OnOk, Ok, Some, drop, false, length, true};
 ghost use Rattle.std.specs.Io.{StartsWith};
 ghost use Rattle.std.specs.Io.KnownBytes.{Appends};
 ghost use Rattle.ll_check.specs.Unread.{IsFaultOf, IsStopped};
@@ -7,17 +7,15 @@ ghost use Rattle.ll_check.specs.declared.source.RecordFault.{RecordFault as Faul
 ghost use Rattle.ll_device.specs.Written.{AppendsPrefix};
 ghost use Rattle.ll_entry.specs.Chain.{checked};
 ghost use Rattle.ll_explain.specs.Upgrade as spec;
-ghost use Rattle.ll_explain.specs.Upgrade.{told_text, upgraded, upgraded_line};
+ghost use Rattle.ll_explain.specs.Upgrade.{HasFailedIf, WritesOff, told_text, upgraded, upgraded_line};
 ghost use Rattle.ll_settings.specs.Settings.{Configuration};
 
-use crate::writing::write_text;
 use ll_attr::after;
 use ll_check::{RecordFault, Told, Visitor, go_over};
-use ll_device::Reader;
+use ll_device::{Failed, Reader, Writer};
 use ll_entry::{LAST_LINE, Version, ask_line, collect_line, header_text};
 use ll_entry_check::FullEntry;
 use std::alloc::{AllocError, Global};
-use std::io::Write;
 
 /// The number of bytes from which lines are written.
 const PIECE: usize = 65_536;
@@ -34,18 +32,19 @@ pub enum UpgradeFault {
 /// Writes the record that is left in `source` to `out` in format 2: the same chunks. It is read in pieces, and written as it is read, up to
 /// the first entry at which it is wrong: if it fails, a prefix was written. The words of settings and items stay as they are. A request for
 /// `v2` in format 1 becomes one for `YES`, as it was answered.
-pub fn upgrade<R: Reader, W: Write>(
+pub fn upgrade<R: Reader, W: Writer>(
     alloc: Global,
     source: &mut R,
     out: &mut W,
 ) -> Result<(), UpgradeFault>
     ensures right { (input : List ℕ) → R.left source.old ≡ Some input
-        → OnOk result (((n : ℕ) × (checked input ≡ Ok n)) × Appends (W.contents out.old) (W.contents out.new) (upgraded input)) }
+        → OnOk result (((n : ℕ) × (checked input ≡ Ok n)) × Appends (W.written out.old) (W.written out.new) (upgraded input)) }
     ensures cut { (input : List ℕ) → R.left source.old ≡ Some input
-        → OnErr result (AppendsPrefix (W.contents out.old) (W.contents out.new) (upgraded input)) }
+        → OnErr result (AppendsPrefix (W.written out.old) (W.written out.new) (upgraded input)) }
     ensures wrong { (input : List ℕ) → R.left source.old ≡ Some input → (f : FaultValue) → IsErrOf result (UpgradeFault.Record f) → IsFaultOf input f }
     ensures stopped { (f : FaultValue) → IsErrOf result (UpgradeFault.Record f)
         → IsStopped (R.failures source.old < R.failures source.new) (R.reads source.new ≡ R.reads source.old + 2 ^ 32) f }
+    ensures unwritten { (input : List ℕ) → R.left source.old ≡ Some input → IsErrOf result UpgradeFault.Write → W.failures out.old < W.failures out.new }
 {
     let mut unwritten = Unwritten {
         alloc,
@@ -74,10 +73,11 @@ struct Unwritten {
     failed: bool,
 }
 
-impl<W: Write> Visitor<W> for Unwritten {
-    ghost use Rattle.ll_explain.specs.Upgrade.{AreWritten};
+impl<W: Writer> Visitor<W> for Unwritten {
+    ghost use Rattle.ll_explain.specs.Upgrade.{AreWritten, HasFailedIf};
 
-    ghost holds = { λ first unwritten out p lines rest. AreWritten (W.contents first) (W.contents out) unwritten.text.items p lines rest };
+    ghost holds = { λ first unwritten out p lines rest. AreWritten (W.written first) (W.written out) unwritten.text.items p lines rest
+        × HasFailedIf unwritten.failed (W.failures first) (W.failures out) };
 
     fn visit(&mut self, out: &mut W, told: &Told<'_>) -> bool {
         let before = self.text.len();
@@ -95,16 +95,29 @@ impl<W: Write> Visitor<W> for Unwritten {
 
 impl Unwritten {
     /// Writes the lines, and returns whether it could. What isn't written stays.
-    fn write<W: Write>(&mut self, out: &mut W) -> bool
-        ensures written { (prefix : List ℕ) × (self.old.text.items ≡ prefix ++ self.new.text.items)
-            × Appends (W.contents out.old) (W.contents out.new) prefix }
+    fn write<W: Writer>(&mut self, out: &mut W) -> bool
+        ensures written { WritesOff (W.written out.old) (W.written out.new) self.old.text.items self.new.text.items }
         ensures all { result ≡ true → self.new.text.items ≡ [] }
+        ensures failed { HasFailedIf self.new.failed (W.failures out.old) (W.failures out.new) }
+        ensures told { result ≡ false → self.new.failed ≡ true }
     {
-        let count = write_text(&self.text, out);
-        drop_front(&mut self.text, count);
-        self.failed = !self.text.is_empty() || out.flush().is_err();
+        self.failed = write_off(&mut self.text, out).is_err();
         !self.failed
     }
+}
+
+/// Writes `text`, and drops what is written of it: all, unless a write fails.
+fn write_off<W: Writer>(text: &mut Vec<u8>, out: &mut W) -> Result<(), Failed>
+    ensures written { WritesOff (W.written out.old) (W.written out.new) text.old.items text.new.items }
+    ensures all { OnOk result (text.new.items ≡ []) }
+    ensures steady { OnOk result (W.failures out.new ≡ W.failures out.old) }
+    ensures failed { OnErr result (W.failures out.old < W.failures out.new) }
+{
+    'left: while !text.is_empty() {
+        let count = out.write(text)?;
+        drop_front(text, count);
+    }
+    Ok(())
 }
 
 /// Drops the first `count` bytes.

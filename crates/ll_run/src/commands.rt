@@ -11,7 +11,7 @@ use ll_command::{
     Command, Fault, Plan, Topic, run_script, secret_line, write_applied, write_checked,
     write_explained, write_help, write_summary, write_upgraded, write_version,
 };
-use ll_device::{CountedReader, CountedWriter};
+use ll_device::{CountedReader, CountedWriter, Writer};
 use ll_origins::Job;
 use ll_push::Ending;
 use ll_reasons::Failure;
@@ -49,29 +49,43 @@ pub enum Exit {
 pub fn called(rt: &HostRuntime) -> Result<Exit, Failure> {
     let words = words(rt)?;
     match Command::of(&words) {
-        Ok(command) => run(rt, command),
+        Ok(command) => run_writing::<Brand>(rt, command, Blank::new(2)),
         Err(fault) => Err(misused(rt.alloc(), fault, &words)),
     }
 }
 
-/// Does what `command` says.
-fn run(rt: &HostRuntime, command: Command<'_>) -> Result<Exit, Failure> {
+/// Does what `command` says, and writes to standard output.
+fn run_writing<L: Ledger>(
+    rt: &HostRuntime,
+    command: Command<'_>,
+    writes: Blank,
+) -> Result<Exit, Failure>
+    requires name { writes.name ≡ L.name }
+    requires parts { writes.parts ≡ L.parts }
+    requires two { writes.parts ≡ 2 }
+{
+    let mut out: CountedWriter<io::Stdout, L> = CountedWriter::new(rt.stdout(), writes);
+    run(rt, command, &mut out)
+}
+
+/// Does what `command` says, and writes to `out`.
+fn run<W: Writer>(rt: &HostRuntime, command: Command<'_>, out: &mut W) -> Result<Exit, Failure> {
     match command {
         Command::Replay => {
-            replay::<Brand, Brand>(rt, Blank::new(2), Blank::new(2))?;
+            replay::<Brand, W>(rt, Blank::new(2), out)?;
             Ok(Exit::Done)
         }
-        Command::Apply { base, delta } => apply(rt, base.as_str(), delta.as_str()),
+        Command::Apply { base, delta } => apply(rt, base.as_str(), delta.as_str(), out),
         Command::Multivariant { record, sources } => {
-            let right = multivariant(rt, record.as_str(), sources)?;
+            let right = multivariant(rt, record.as_str(), sources, out)?;
             Ok(exit_of(rt, record, right))
         }
         Command::Version => {
-            write_version(&mut rt.stdout())?;
+            write_version(out)?;
             Ok(Exit::Done)
         }
         Command::Help(topic) => {
-            write_help(topic, &mut rt.stdout())?;
+            write_help(topic, out)?;
             Ok(Exit::Done)
         }
         Command::Serve(path) => Ok(Exit::Serve {
@@ -85,50 +99,67 @@ fn run(rt: &HostRuntime, command: Command<'_>) -> Result<Exit, Failure> {
             plan,
             secret,
         } => publish_input(rt, job_of(rt, address, channel, rendition, plan, secret)?),
-        command => run_on_record(rt, command),
+        command => run_on_record(rt, command, out),
     }
 }
 
 /// Does what `command` says if it is one on a record alone.
-fn run_on_record(rt: &HostRuntime, command: Command<'_>) -> Result<Exit, Failure> {
+fn run_on_record<W: Writer>(
+    rt: &HostRuntime,
+    command: Command<'_>,
+    out: &mut W,
+) -> Result<Exit, Failure> {
     match command {
-        Command::Check(record) => check::<Brand>(rt, record, Blank::new(2)),
+        Command::Check(record) => check::<Brand, W>(rt, record, Blank::new(2), out),
         Command::Upgrade(record) => {
-            upgrade::<Brand, Brand>(rt, record, Blank::new(2), Blank::new(2))
+            upgrade::<Brand, Brand, W>(rt, record, Blank::new(2), Blank::new(2), out)
         }
-        Command::Summarize(record) => summarize::<Brand>(rt, record, Blank::new(2)),
-        Command::Explain { record, entry } => explain::<Brand>(rt, record, entry, Blank::new(2)),
+        Command::Summarize(record) => summarize::<Brand, W>(rt, record, Blank::new(2), out),
+        Command::Explain { record, entry } => {
+            explain::<Brand, W>(rt, record, entry, Blank::new(2), out)
+        }
         _ => Err(Failure::from(Fault::Usage)),
     }
 }
 
 /// Writes the playlist that results from applying the delta update in the file `delta` to the one in the file `base`.
-fn apply(rt: &HostRuntime, base: &str, delta: &str) -> Result<Exit, Failure> {
+fn apply<W: Writer>(
+    rt: &HostRuntime,
+    base: &str,
+    delta: &str,
+    out: &mut W,
+) -> Result<Exit, Failure> {
     let base = read_file(rt, base)?;
     let delta = read_file(rt, delta)?;
-    write_applied(rt.alloc(), &base, &delta, &mut rt.stdout())?;
+    write_applied(rt.alloc(), &base, &delta, out)?;
     Ok(Exit::Done)
 }
 
 /// Writes how many entries the record in a file has, or how it isn't right.
-fn check<L: Ledger>(rt: &HostRuntime, path: &Text, reads: Blank) -> Result<Exit, Failure>
+fn check<L: Ledger, W: Writer>(
+    rt: &HostRuntime,
+    path: &Text,
+    reads: Blank,
+    out: &mut W,
+) -> Result<Exit, Failure>
     requires name { reads.name ≡ L.name }
     requires parts { reads.parts ≡ L.parts }
     requires two { reads.parts ≡ 2 }
 {
     let mut record = open::<L>(rt, path, reads)?;
-    match write_checked(rt.alloc(), &mut record, &mut rt.stdout()) {
+    match write_checked(rt.alloc(), &mut record, out) {
         Ok(right) => Ok(exit_of(rt, path, right)),
         Err(fault) => Err(unfinished(rt.alloc(), path, fault)),
     }
 }
 
 /// Writes the record in a file in format 2, or how it isn't right. It reads the file twice.
-fn upgrade<L: Ledger, M: Ledger>(
+fn upgrade<L: Ledger, M: Ledger, W: Writer>(
     rt: &HostRuntime,
     path: &Text,
     reads: Blank,
     further: Blank,
+    out: &mut W,
 ) -> Result<Exit, Failure>
     requires name { reads.name ≡ L.name }
     requires parts { reads.parts ≡ L.parts }
@@ -139,38 +170,44 @@ fn upgrade<L: Ledger, M: Ledger>(
 {
     let mut record = open::<L>(rt, path, reads)?;
     let mut again = open::<M>(rt, path, further)?;
-    match write_upgraded(rt.alloc(), &mut record, &mut again, &mut rt.stdout()) {
+    match write_upgraded(rt.alloc(), &mut record, &mut again, out) {
         Ok(right) => Ok(exit_of(rt, path, right)),
         Err(fault) => Err(unfinished(rt.alloc(), path, fault)),
     }
 }
 
 /// Writes a summary of the record in a file, or how it isn't right.
-fn summarize<L: Ledger>(rt: &HostRuntime, path: &Text, reads: Blank) -> Result<Exit, Failure>
-    requires name { reads.name ≡ L.name }
-    requires parts { reads.parts ≡ L.parts }
-    requires two { reads.parts ≡ 2 }
-{
-    let mut record = open::<L>(rt, path, reads)?;
-    match write_summary(rt.alloc(), &mut record, &mut rt.stdout()) {
-        Ok(right) => Ok(exit_of(rt, path, right)),
-        Err(fault) => Err(unfinished(rt.alloc(), path, fault)),
-    }
-}
-
-/// Writes what happened at an entry of the record in a file, or how the record isn't right.
-fn explain<L: Ledger>(
+fn summarize<L: Ledger, W: Writer>(
     rt: &HostRuntime,
     path: &Text,
-    entry: u64,
     reads: Blank,
+    out: &mut W,
 ) -> Result<Exit, Failure>
     requires name { reads.name ≡ L.name }
     requires parts { reads.parts ≡ L.parts }
     requires two { reads.parts ≡ 2 }
 {
     let mut record = open::<L>(rt, path, reads)?;
-    match write_explained(rt.alloc(), &mut record, entry, &mut rt.stdout()) {
+    match write_summary(rt.alloc(), &mut record, out) {
+        Ok(right) => Ok(exit_of(rt, path, right)),
+        Err(fault) => Err(unfinished(rt.alloc(), path, fault)),
+    }
+}
+
+/// Writes what happened at an entry of the record in a file, or how the record isn't right.
+fn explain<L: Ledger, W: Writer>(
+    rt: &HostRuntime,
+    path: &Text,
+    entry: u64,
+    reads: Blank,
+    out: &mut W,
+) -> Result<Exit, Failure>
+    requires name { reads.name ≡ L.name }
+    requires parts { reads.parts ≡ L.parts }
+    requires two { reads.parts ≡ 2 }
+{
+    let mut record = open::<L>(rt, path, reads)?;
+    match write_explained(rt.alloc(), &mut record, entry, out) {
         Ok(right) => Ok(exit_of(rt, path, right)),
         Err(fault) => Err(unfinished(rt.alloc(), path, fault)),
     }
@@ -289,19 +326,15 @@ fn address_in(alloc: Global, word: &str) -> Result<Address, Failure> {
     }
 }
 
-/// Runs the script on standard input, and writes its answers to standard output.
-fn replay<L: Ledger, M: Ledger>(rt: &HostRuntime, reads: Blank, writes: Blank) -> Result<(), Fault>
-    requires reads_name { reads.name ≡ L.name }
-    requires reads_parts { reads.parts ≡ L.parts }
-    requires reads_two { reads.parts ≡ 2 }
-    requires writes_name { writes.name ≡ M.name }
-    requires writes_parts { writes.parts ≡ M.parts }
-    requires writes_two { writes.parts ≡ 2 }
+/// Runs the script on standard input, and writes its answers to `out`.
+fn replay<L: Ledger, W: Writer>(rt: &HostRuntime, reads: Blank, out: &mut W) -> Result<(), Fault>
+    requires name { reads.name ≡ L.name }
+    requires parts { reads.parts ≡ L.parts }
+    requires two { reads.parts ≡ 2 }
     ensures { IfErr result (λ f. (fault : RunFault) × (f ≡ Fault.Replay fault)) }
 {
     let mut source: CountedReader<io::Stdin, L> = CountedReader::new(rt.stdin(), reads);
-    let mut sink: CountedWriter<io::Stdout, M> = CountedWriter::new(rt.stdout(), writes);
-    run_script(rt.alloc(), &mut source, &mut sink)
+    run_script(rt.alloc(), &mut source, out)
 }
 
 /// Returns all bytes of a file.

@@ -3,16 +3,18 @@ use crate::commands::read_file;
 use crate::failing::wrong_usage;
 use ll_attr::{Text, cut};
 use ll_command::{Fault, Topic, write_multivariant};
+use ll_device::Writer;
 use ll_multivariant::NamedSection;
 use ll_reasons::Failure;
 use std::alloc::AllocError;
 
 /// Writes the Multivariant Playlist of the channel with the record in the file `record`, or how the record isn't right. Each of `words` is the
 /// name of a rendition, `=` and the name of the file of its Media Initialization Section. Returns whether the record is right.
-pub(crate) fn multivariant(
+pub(crate) fn multivariant<W: Writer>(
     rt: &HostRuntime,
     record: &str,
     words: &[Text],
+    out: &mut W,
 ) -> Result<bool, Failure> {
     let record = read_file(rt, record)?;
     let mut sources = Vec::new(rt.alloc());
@@ -22,7 +24,7 @@ pub(crate) fn multivariant(
             return Err(Failure::from(Fault::Memory));
         }
     }
-    match write_multivariant(rt.alloc(), &record, &sources, &mut rt.stdout()) {
+    match write_multivariant(rt.alloc(), &record, &sources, out) {
         Ok(right) => Ok(right),
         Err(fault) => Err(named(rt, fault, words)),
     }

@@ -29,18 +29,18 @@ returns-in-Err-Record-clause-endless g c = λ e.
 pub returns-in-Err-Wrong-clause-cut : goal.returns-in-Err-Wrong-clause-cut
 returns-in-Err-Wrong-clause-cut g c input next is then =
     let w = c.in-Err-Wrong in
-    wrong-cut c.write_answer.result input (upgraded next) w.fault (g.W.Write.contents c.args.out.now) (g.W.Write.contents c.write_answer.new.out)
-    c.write_answer.ensures.cut (λ e. ap g.W.Write.contents (c.write_answer.ensures.none e)) (rw w.field-0-is at (w.ensures.wrong input is))
+    wrong-cut c.write_answer.result input (upgraded next) w.fault (g.W.Writer.written c.args.out.now) (g.W.Writer.written c.write_answer.new.out)
+    c.write_answer.ensures.cut (λ e. ap g.W.Writer.written (c.write_answer.ensures.none e)) (rw w.field-0-is at (w.ensures.wrong input is))
 
 pub returns-in-Err-Unread-clause-cut : goal.returns-in-Err-Unread-clause-cut
-returns-in-Err-Unread-clause-cut g c input next is then = none-cut (g.W.Write.contents c.args.out.now) (upgrade_answer (checked input) (upgraded next))
+returns-in-Err-Unread-clause-cut g c input next is then = none-cut (g.W.Writer.written c.args.out.now) (upgrade_answer (checked input) (upgraded next))
 
 pub returns-in-Err-Write-clause-cut : goal.returns-in-Err-Write-clause-cut
 returns-in-Err-Write-clause-cut g c input next is then =
-    right-cut input (upgraded next) c.in-Ok.field-0 (g.W.Write.contents c.args.out.now) (g.W.Write.contents c.upgrade.new.out) (c.in-Ok.ensures.value input is)
+    right-cut input (upgraded next) c.in-Ok.field-0 (g.W.Writer.written c.args.out.now) (g.W.Writer.written c.upgrade.new.out) (c.in-Ok.ensures.value input is)
     (c.in-Err-Write.ensures.cut next then)
 
 pub returns-in-Err-Record-clause-cut : goal.returns-in-Err-Record-clause-cut
 returns-in-Err-Record-clause-cut g c input next is then =
-    right-cut input (upgraded next) c.in-Ok.field-0 (g.W.Write.contents c.args.out.now) (g.W.Write.contents c.upgrade.new.out) (c.in-Ok.ensures.value input is)
+    right-cut input (upgraded next) c.in-Ok.field-0 (g.W.Writer.written c.args.out.now) (g.W.Writer.written c.upgrade.new.out) (c.in-Ok.ensures.value input is)
     (c.in-Err-Record.ensures.cut next then)
