@@ -224,8 +224,9 @@ def times_out(room):
     ask_all(players, f'{PRESENT}?_HLS_msn=0&_HLS_part=1')
     all_get(players, 503, b'Timeout\n')
     took = time.monotonic() - began
-    check(5 < took < 8, f'the time-out came after {took} s')
-    room.recorded(most_held=1, timed_out=1)
+    check(5 < took < 15, f'the time-out came after {took} s')
+    # (Varnish keeps the answer for a tenth of a second. Who gets to it later than that, on a machine that is slow, waits once more.)
+    room.recorded(most_held=1, timed_out=1 if took < 8 else 2)
 
 
 def fields(room):
